@@ -1,0 +1,78 @@
+-- A well-formed card stays well formed with one input, gate, output or fault more that passed the tests.
+use mathlib.Core.Path.{_≡_, refl, sym, ap, subst, _∙_}
+use mathlib.Core.Bool.{true}
+use mathlib.Core.List.{List, [], _∷_, _++_}
+use mathlib.Core.Logic.{⊎-elim}
+use Prim.Native.Nat.{ℕ, _+_, _<_, _≤_}
+use native.Mathlib.Omega.{arith}
+use lib.ListN.{length, getD}
+use Rattle.std.proofs.shelf.Lists.{getD-append-left, getD-at, length-push}
+use Rattle.std.proofs.shelf.Tests.{cases-lt}
+use Rattle.boards.specs.declared.parts.Fault.{Fault}
+use Rattle.boards.specs.Cards.{Card, Gate, card, lines, no-gate, no-fault, pins-fit, Pin-counts, Earlier, Outputs-exist, Faults-exist, Sound}
+
+-- what holds of each element holds of each with one more of which it holds
+pub pushed : {X : Type 0} (P : ℕ → X → Type 0) (d : X) (xs : List X) (x : X) → ((i : ℕ) → i < length xs → P i (getD xs i d)) → P (length xs) x → (i : ℕ) → i < length (xs ++ (x ∷ [])) → P i (getD (xs ++ (x ∷ [])) i d)
+pushed P d xs x each here i l =
+    let e = length-push xs x in
+    ⊎-elim
+    (λ (h : i < length xs). subst (P i) (sym (getD-append-left xs (x ∷ []) d i h)) (each i h))
+    (λ (h : length xs ≤ i).
+      let s : length xs ≡ i = omega arith in
+      subst (P i) (sym (getD-at xs x [] d i s)) (subst (λ (k : ℕ). P k x) s here))
+    (cases-lt i (length xs))
+
+module _ (c : Card) (s : Sound c) where
+  pub input-more : c .inputs < 16 → length (c .gates) ≡ 0 → Sound (card (c .inputs + 1) (c .gates) (c .outputs) (c .faults))
+  input-more l none = record {
+    few-inputs = omega arith;
+    few-lines = omega arith;
+    few-outputs = s .few-outputs;
+    few-faults = s .few-faults;
+    pin-counts = s .pin-counts;
+    earlier = λ i p h k. let e = s .earlier i p h k in omega arith;
+    outputs-exist = λ o h. let e = s .outputs-exist o h in omega arith;
+    faults-exist = λ f h. let e = s .faults-exist f h in omega arith;
+  }
+
+  pub gate-more : (g : Gate) → lines c < 512 → pins-fit (g .kind) (length (g .pins)) ≡ true → ((p : ℕ) → p < length (g .pins) → getD (g .pins) p 0 < lines c) → Sound (card (c .inputs) (c .gates ++ (g ∷ [])) (c .outputs) (c .faults))
+  gate-more g l fit early =
+    let n = length-push (c .gates) g in
+    record {
+      few-inputs = s .few-inputs;
+      few-lines = omega arith;
+      few-outputs = s .few-outputs;
+      few-faults = s .few-faults;
+      pin-counts = pushed (λ i x. pins-fit (x .kind) (length (x .pins)) ≡ true) no-gate (c .gates) g (s .pin-counts) fit;
+      earlier = λ i p h. pushed (λ j x. p < length (x .pins) → getD (x .pins) p 0 < c .inputs + j) no-gate (c .gates) g (λ j k. s .earlier j p k) (early p) i h;
+      outputs-exist = λ o h. let e = s .outputs-exist o h in omega arith;
+      faults-exist = λ f h. let e = s .faults-exist f h in omega arith;
+    }
+
+  pub output-more : (o : ℕ) → length (c .outputs) < 32 → o < lines c → Sound (card (c .inputs) (c .gates) (c .outputs ++ (o ∷ [])) (c .faults))
+  output-more o l h =
+    let n = length-push (c .outputs) o in
+    record {
+      few-inputs = s .few-inputs;
+      few-lines = s .few-lines;
+      few-outputs = omega arith;
+      few-faults = s .few-faults;
+      pin-counts = s .pin-counts;
+      earlier = s .earlier;
+      outputs-exist = pushed (λ _ x. x < lines c) 0 (c .outputs) o (s .outputs-exist) h;
+      faults-exist = s .faults-exist;
+    }
+
+  pub fault-more : (f : Fault) → length (c .faults) < 255 → f .line < lines c → Sound (card (c .inputs) (c .gates) (c .outputs) (c .faults ++ (f ∷ [])))
+  fault-more f l h =
+    let n = length-push (c .faults) f in
+    record {
+      few-inputs = s .few-inputs;
+      few-lines = s .few-lines;
+      few-outputs = s .few-outputs;
+      few-faults = omega arith;
+      pin-counts = s .pin-counts;
+      earlier = s .earlier;
+      outputs-exist = s .outputs-exist;
+      faults-exist = pushed (λ _ x. x .line < lines c) no-fault (c .faults) f (s .faults-exist) h;
+    }

@@ -1,0 +1,9 @@
+pub mod Fields
+pub mod Packing
+pub mod Passing
+pub mod Grown
+pub mod Soundness
+pub mod Filed
+pub mod Accepted
+pub mod Recorded
+pub mod Exact

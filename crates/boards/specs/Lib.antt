@@ -1,0 +1,9 @@
+pub mod Values
+pub mod Cards
+pub mod Wiring
+pub mod Boards
+pub mod Files
+pub mod Records
+pub mod Reading
+pub mod Scanning
+pub mod Refusing
