@@ -24,7 +24,8 @@ use Rattle.boards.specs.Records.{word, words, zeros, class, kind-of, trouble, 
 use Rattle.boards.specs.Reading.{record-at}
 use Rattle.boards.specs.Scanning.{kind-or, fault-in, with-item, with-record, with-gate, so-far, Good}
 use Rattle.boards.proofs.Packing.{Bytes, low-word, high-word, zeros-all, four-bytes, padded, below-each}
-use Rattle.boards.proofs.Passing.{Passed, of-class, with-kind, few-pins}
+use Rattle.boards.proofs.Pins.{few-pins}
+use Rattle.boards.proofs.Passing.{Passed, of-class, with-kind}
 use Rattle.boards.proofs.Grown.{input-more, gate-more, output-more, fault-more}
 use Rattle.boards.proofs.Filed.{input-end, gate-end, output-end, fault-end}
 

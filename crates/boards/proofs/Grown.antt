@@ -1,26 +1,14 @@
 -- A well-formed card stays well formed with one input, gate, output or fault more that passed the tests.
-use mathlib.Core.Path.{_≡_, refl, sym, ap, subst, _∙_}
+use mathlib.Core.Path.{_≡_}
 use mathlib.Core.Bool.{true}
 use mathlib.Core.List.{List, [], _∷_, _++_}
-use mathlib.Core.Logic.{⊎-elim}
 use Prim.Native.Nat.{ℕ, _+_, _<_, _≤_}
 use native.Mathlib.Omega.{arith}
 use lib.ListN.{length, getD}
-use Rattle.std.proofs.shelf.Lists.{getD-append-left, getD-at, length-push}
-use Rattle.std.proofs.shelf.Tests.{cases-lt}
+use Rattle.std.proofs.shelf.Lists.{length-push}
+use Rattle.devices.proofs.Filling.{pushed}
 use Rattle.boards.specs.declared.parts.Fault.{Fault}
 use Rattle.boards.specs.Cards.{Card, Gate, card, lines, no-gate, no-fault, pins-fit, Pin-counts, Earlier, Outputs-exist, Faults-exist, Sound}
-
--- what holds of each element holds of each with one more of which it holds
-pub pushed : {X : Type 0} (P : ℕ → X → Type 0) (d : X) (xs : List X) (x : X) → ((i : ℕ) → i < length xs → P i (getD xs i d)) → P (length xs) x → (i : ℕ) → i < length (xs ++ (x ∷ [])) → P i (getD (xs ++ (x ∷ [])) i d)
-pushed P d xs x each here i l =
-    let e = length-push xs x in
-    ⊎-elim
-    (λ (h : i < length xs). subst (P i) (sym (getD-append-left xs (x ∷ []) d i h)) (each i h))
-    (λ (h : length xs ≤ i).
-      let s : length xs ≡ i = omega arith in
-      subst (P i) (sym (getD-at xs x [] d i s)) (subst (λ (k : ℕ). P k x) s here))
-    (cases-lt i (length xs))
 
 module _ (c : Card) (s : Sound c) where
   pub input-more : c .inputs < 16 → length (c .gates) ≡ 0 → Sound (card (c .inputs + 1) (c .gates) (c .outputs) (c .faults))

@@ -1,19 +1,17 @@
 -- A record that passes every test, and what each test then says.
 use mathlib.Core.Path.{_≡_, refl, sym, ap, subst, _∙_}
-use mathlib.Core.Bool.{Bool, true, false, cond, _&&_}
+use mathlib.Core.Bool.{Bool, true, false, cond}
 use mathlib.Core.List.{List, [], _∷_}
-use Prim.Native.Nat.{ℕ, _<_, _≤_}
+use Prim.Native.Nat.{ℕ}
 use native.Mathlib.Omega.{arith}
-use lib.Dec.{eqb, leb}
 use lib.ListN.{getD, drop}
 use Rattle.std.specs.declared.option.Option.{Option}
 use Rattle.std.specs.declared.option.Option.the-variants.{Some, None}
-use Rattle.std.proofs.shelf.Tests.{eqb-true, leb-true, and-parts, false≢true}
+use Rattle.std.proofs.shelf.Tests.{false≢true}
 use Rattle.boards.specs.declared.parts.Class.{Class}
 use Rattle.boards.specs.declared.parts.Kind.{Kind}
 use Rattle.boards.specs.declared.parts.Seen.{Seen}
 use Rattle.boards.specs.declared.refusal.Trouble.{Trouble}
-use Rattle.boards.specs.Values.{single}
 use Rattle.boards.specs.Cards.{pins-fit}
 use Rattle.boards.specs.Records.{word, class, kind-of, gate-fits, in-order, has-room, field-fits, lines-exist, rest-zero, unless, trouble-in, trouble-of, trouble}
 
@@ -49,18 +47,6 @@ of-class (Some k) s f w rest e = (k, refl, passed k s f w rest e)
 pub with-kind : (o : Option Kind) (n : ℕ) → gate-fits o n ≡ true → (k : Kind) × (o ≡ Some k) × (pins-fit k n ≡ true)
 with-kind None n e = absurd (false≢true e)
 with-kind (Some k) n e = (k, refl, e)
-
-by-kind : (s : Bool) (n : ℕ) → cond s (eqb n 1) (leb 2 n && leb n 6) ≡ true → (1 ≤ n) × (n ≤ 6) × (s ≡ true → n ≡ 1)
-by-kind true n h = let e = eqb-true n 1 h in (omega arith, omega arith, λ _. e)
-by-kind false n h =
-    let p = and-parts (leb 2 n) (leb n 6) h in
-    let a = leb-true 2 n (p .0) in
-    let b = leb-true n 6 (p .1) in
-    (omega arith, omega arith, λ e. absurd (false≢true e))
-
--- a gate has at least one pin and at most six, and an inverter or a repeater has one
-pub few-pins : (k : Kind) (n : ℕ) → pins-fit k n ≡ true → (1 ≤ n) × (n ≤ 6) × (single k ≡ true → n ≡ 1)
-few-pins k n h = by-kind (single k) n h
 
 -- a record of a known class in which nothing is wrong passes the tests of that class
 pub passes-as : (s : Seen) (r : List ℕ) (k : Class) → class (getD r 0 0) ≡ Some k → trouble s r ≡ None → Passed k s (getD r 1 0) (word (getD r 2 0) (getD r 3 0)) (drop 4 r)

@@ -23,7 +23,8 @@ use Rattle.boards.specs.Records.{word, words, zeros, all-below, kind-of, gate-
 use Rattle.boards.specs.Reading.{record-at}
 use Rattle.boards.specs.Scanning.{kind-or, with-record, with-gate, so-far, Good}
 use Rattle.boards.proofs.Packing.{word-low, all-zeros, length-pin-bytes, pins-back, zeros-after, each-below, kind-back}
-use Rattle.boards.proofs.Passing.{Passed, none-wrong, few-pins}
+use Rattle.boards.proofs.Pins.{few-pins}
+use Rattle.boards.proofs.Passing.{Passed, none-wrong}
 use Rattle.boards.proofs.Filed.{input-end, gate-end, output-end, fault-end}
 
 -- n good records that make up a card

@@ -9,13 +9,17 @@ use Rattle.std.proofs.shelf.Lists.{length-map}
 use Rattle.boards.specs.declared.board.Board.{Board}
 use Rattle.boards.specs.declared.gate.StoredGate.{StoredGate}
 use Rattle.boards.specs.declared.parts.Fault.{Fault}
-use Rattle.boards.specs.Cards.{card, Sound, Pin-counts, Earlier, Outputs-exist, Faults-exist}
+use Rattle.boards.specs.Cards.{card, lines, Sound, Pin-counts, Earlier, Outputs-exist, Faults-exist}
 use Rattle.boards.specs.Wiring.{gate-of, wired}
 use Rattle.boards.specs.Boards.{card-of}
 
+-- its lines, counted by the gates that are stored
+pub lines-of : (b : Board) → b .inputs + length (vec-items (b .gates)) ≡ lines (card-of b)
+lines-of b = let n = length-map (vec-items (b .gates)) gate-of in omega arith
+
 pub sound : (b : Board) → Sound (card-of b)
 sound b =
-    let n = length-map (vec-items (b .gates)) gate-of in
+    let n = lines-of b in
     record {
       few-inputs = b .«few_inputs»;
       few-lines = omega (arith, b .«few_lines»);

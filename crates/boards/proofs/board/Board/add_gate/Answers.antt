@@ -14,7 +14,7 @@ use Rattle.boards.specs.Boards.{card-of}
 use Rattle.boards.specs.Records.{words}
 use Rattle.boards.proofs.Fields.{six-lines}
 use Rattle.boards.proofs.Packing.{below-each}
-use Rattle.boards.proofs.Passing.{few-pins}
+use Rattle.boards.proofs.Pins.{few-pins}
 use Rattle.boards.proofs.Grown.{gate-more}
 use Rattle.boards.proofs.Soundness.{sound, kept}
 use Rattle.boards.proofs.board.Board.add_gate.Needs as need

@@ -1,0 +1,16 @@
+// Printing what a library call wrote into lent text.
+use boards::refusal::Unread;
+use std::io;
+use std::io::Write;
+
+// The longest line: `refused`, a digit, a number of at most 20 digits, two blanks and a line feed.
+const REFUSED_LINE: usize = 32;
+
+// Prints the line for a refused board.
+pub fn say_refused(rt: &LibcRuntime, unread: Unread) -> io::Result<()> {
+    let mut text = [0u8; REFUSED_LINE];
+    match unread.write_line(&mut text) {
+        Ok(length) => rt.stdout().write_all(&text[0..length]),
+        Err(_) => Ok(()),
+    }
+}
