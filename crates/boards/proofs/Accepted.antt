@@ -103,23 +103,26 @@ module _ (c : Card) (s : Sound c) (r : List ℕ) (bytes : Bytes r) (sixteen : le
       let no-gates = eqb-true _ _ (g .0) in
       let z = and-parts (eqb field 0) _ (p .zero) in
       let y = and-parts (eqb named 0) (zeros (drop 4 r)) (z .1) in
-      let w : named ≡ 0 = eqb-true named 0 (y .0) in
-      ( input-more c s (ltb-true _ _ (p .room)) no-gates
-      , input-end (c .inputs) (c .gates) (c .outputs) (c .faults) no-gates (eqb-true _ _ (o .0)) (eqb-true _ _ (o .1))
-        ∙ ap (λ x. file c ++ x) (sym (apart ∙ same-record _ 0x49 _ 0 _ 0 _ 0 _ (replicate 12 0) m (eqb-true field 0 (z .0)) (omega arith) (omega arith) (all-zero (y .1)))))
+      let w : named ≡ 0 = eqb-true named 0 (y .0) in (
+        input-more c s (ltb-true _ _ (p .room)) no-gates,
+        input-end (c .inputs) (c .gates) (c .outputs) (c .faults) no-gates (eqb-true _ _ (o .0)) (eqb-true _ _ (o .1))
+            ∙ ap (λ x. file c ++ x) (sym (apart ∙ same-record _ 0x49 _ 0 _ 0 _ 0 _ (replicate 12 0) m (eqb-true field 0 (z .0)) (omega arith) (omega arith) (all-zero (y .1)))),
+      )
 
   adds-output : getD r 0 0 ≡ 0x4F → Passed Output (counts c) field named (drop 4 r) → Adds Output
   adds-output m p =
-      let z = and-parts (eqb field 0) (zeros (drop 4 r)) (p .zero) in
-      ( output-more c s named (ltb-true _ _ (p .room)) (ltb-true _ _ (p .exist))
-      , output-end (c .inputs) (c .gates) (c .outputs) (c .faults) named (eqb-true _ _ (p .ordered))
-        ∙ ap (λ x. file c ++ x) (sym (apart ∙ same-record _ 0x4F _ 0 _ (low named) _ (high named) _ (replicate 12 0) m (eqb-true field 0 (z .0)) (sym (low-word _ _ (bytes 2))) (sym (high-word _ _ (bytes 2))) (all-zero (z .1)))))
+      let z = and-parts (eqb field 0) (zeros (drop 4 r)) (p .zero) in (
+        output-more c s named (ltb-true _ _ (p .room)) (ltb-true _ _ (p .exist)),
+        output-end (c .inputs) (c .gates) (c .outputs) (c .faults) named (eqb-true _ _ (p .ordered))
+            ∙ ap (λ x. file c ++ x) (sym (apart ∙ same-record _ 0x4F _ 0 _ (low named) _ (high named) _ (replicate 12 0) m (eqb-true field 0 (z .0)) (sym (low-word _ _ (bytes 2))) (sym (high-word _ _ (bytes 2))) (all-zero (z .1)))),
+      )
 
   adds-fault : getD r 0 0 ≡ 0x46 → Passed FaultRecord (counts c) field named (drop 4 r) → Adds FaultRecord
-  adds-fault m p =
-      ( fault-more c s (fault-in r) (ltb-true _ _ (p .room)) (ltb-true _ _ (p .exist))
-      , fault-end (c .inputs) (c .gates) (c .outputs) (c .faults) (fault-in r)
-        ∙ ap (λ x. file c ++ x) (sym (apart ∙ same-record _ 0x46 _ (cond (eqb field 1) 1 0) _ (low named) _ (high named) _ (replicate 12 0) m (stuck-byte field (leb-true _ _ (p .fits))) (sym (low-word _ _ (bytes 2))) (sym (high-word _ _ (bytes 2))) (all-zero (p .zero)))))
+  adds-fault m p = (
+    fault-more c s (fault-in r) (ltb-true _ _ (p .room)) (ltb-true _ _ (p .exist)),
+    fault-end (c .inputs) (c .gates) (c .outputs) (c .faults) (fault-in r)
+        ∙ ap (λ x. file c ++ x) (sym (apart ∙ same-record _ 0x46 _ (cond (eqb field 1) 1 0) _ (low named) _ (high named) _ (replicate 12 0) m (stuck-byte field (leb-true _ _ (p .fits))) (sym (low-word _ _ (bytes 2))) (sym (high-word _ _ (bytes 2))) (all-zero (p .zero)))),
+  )
 
   adds-gate : getD r 0 0 ≡ 0x47 → Passed GateRecord (counts c) field named (drop 4 r) → Adds GateRecord
   adds-gate m p =
@@ -131,14 +134,15 @@ module _ (c : Card) (s : Sound c) (r : List ℕ) (bytes : Bytes r) (sixteen : le
       let d = padded named 6 (drop 4 r) (λ i. let e = getD-drop 4 r i 0 in let b = bytes (4 + i) in omega arith) (twelve ∙ refl) (few .1) (p .zero) in
       let is-kind : kind-or (kind-of field) ≡ kind = ap kind-or (q .1) in
       let g : Gate = record { kind = kind-or (kind-of field); pins = pins } in
-      let n : length pins ≡ named = d .0 in
-      ( gate-more c s g (ltb-true _ _ (p .room)) (ap (λ k. pins-fit k (length pins)) is-kind ∙ ap (pins-fit kind) n ∙ q .2) (below-each (lines c) pins (p .exist))
-      , gate-end (c .inputs) (c .gates) (c .outputs) (c .faults) g (eqb-true _ _ (o .0)) (eqb-true _ _ (o .1))
-        ∙ ap (λ x. file c ++ x) (sym (apart ∙ same-record _ 0x47 _ (code (kind-or (kind-of field))) _ (low (length pins)) _ (high (length pins)) _ (pin-bytes pins ++ replicate (12 - 2 * length pins) 0) m
+      let n : length pins ≡ named = d .0 in (
+        gate-more c s g (ltb-true _ _ (p .room)) (ap (λ k. pins-fit k (length pins)) is-kind ∙ ap (pins-fit kind) n ∙ q .2) (below-each (lines c) pins (p .exist)),
+        gate-end (c .inputs) (c .gates) (c .outputs) (c .faults) g (eqb-true _ _ (o .0)) (eqb-true _ _ (o .1))
+            ∙ ap (λ x. file c ++ x) (sym (apart ∙ same-record _ 0x47 _ (code (kind-or (kind-of field))) _ (low (length pins)) _ (high (length pins)) _ (pin-bytes pins ++ replicate (12 - 2 * length pins) 0) m
             (coded field kind (q .1) ∙ ap code (sym is-kind))
             (sym (ap low n ∙ low-word _ _ (bytes 2)))
             (sym (ap high n ∙ high-word _ _ (bytes 2)))
-            (d .1 ∙ ap (λ j. pin-bytes pins ++ replicate (12 - 2 * j) 0) (sym n)))))
+            (d .1 ∙ ap (λ j. pin-bytes pins ++ replicate (12 - 2 * j) 0) (sym n)))),
+      )
 
   adds : (k : Class) → getD r 0 0 ≡ mark-of k → Passed k (counts c) field named (drop 4 r) → Adds k
   adds Input m p = adds-input m p

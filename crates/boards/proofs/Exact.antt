@@ -26,7 +26,7 @@ built bs c s e =
     subst (λ (m : ℕ). Built bs m c) n b
 
 pub accepted : (bs : List ℕ) → Bytes bs → length bs % 16 ≡ 0 → Good bs (records bs) →
-  Sound (so-far bs (records bs)) × (file (so-far bs (records bs)) ≡ bs) × ((c : Card) → Sound c → file c ≡ bs → c ≡ so-far bs (records bs))
+    Sound (so-far bs (records bs)) × (file (so-far bs (records bs)) ≡ bs) × ((c : Card) → Sound c → file c ≡ bs → c ≡ so-far bs (records bs))
 accepted bs bytes whole good =
     let r = reached bs bytes (records bs) (omega arith) good in
     (r .0, r .1 ∙ take-all (16 * records bs) bs (omega arith), λ c s e. sym (built bs c s e .is))
@@ -41,7 +41,7 @@ refused bs (Bad t r) h c s e =
     let b : Built front (records front) (before .0) = built front (before .0) (before .1) (before .2) in
     let m : records front ≡ r = omega arith in
     let there : so-far bs r ≡ before .0 =
-        ap (λ xs. so-far xs r) (sym (take-append-drop (16 * r) bs)) ∙ so-far-front front (drop (16 * r) bs) r (omega arith) ∙ ap (so-far front) (sym m) ∙ b .is in
+    ap (λ xs. so-far xs r) (sym (take-append-drop (16 * r) bs)) ∙ so-far-front front (drop (16 * r) bs) r (omega arith) ∙ ap (so-far front) (sym m) ∙ b .is in
     let ok : trouble (counts (before .0)) (record-at bs r) ≡ None = ap (λ x. trouble (counts x) (record-at bs r)) (sym there) ∙ built bs c s e .good r below in
     let bad : trouble (counts (before .0)) (record-at bs r) ≡ Some t = before .3 in
     let z : _≡_ {A = ℕ} 0 1 = cc in omega arith

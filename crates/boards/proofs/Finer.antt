@@ -54,9 +54,9 @@ decided-finer : (p : Value → Bool) → p Unknown ≡ false → (x y : Value) (
 decided-finer p u x y v w ps h =
     ⊎-elim
     (λ (t : any is-unknown (map v ps) ≡ true). ⊎-elim
-      (λ (d : any p (map v ps) ≡ true). rw (d, any-stays p u v w ps h d) same)
-      (λ (d : any p (map v ps) ≡ false). rw (d, t) more)
-      (cases-bool (any p (map v ps))))
+    (λ (d : any p (map v ps) ≡ true). rw (d, any-stays p u v w ps h d) same)
+    (λ (d : any p (map v ps) ≡ false). rw (d, t) more)
+    (cases-bool (any p (map v ps))))
     (λ (n : any is-unknown (map v ps) ≡ false). rw (all-settled v w ps h n) same)
     (cases-bool (any is-unknown (map v ps)))
 
@@ -93,7 +93,7 @@ given-finer a b r i =
     ⊎-elim
     (λ (z : bit (b .zeros) i ≡ 1). rw (← given-zero b i z, ← given-zero a i (r i .0 z)) same)
     (λ (nz : bit (b .zeros) i ≡ 1 → ⊥). ⊎-elim
-      (λ (o : bit (b .ones) i ≡ 1). let t = r i .1 o in rw (← given-one b i nz o, ← given-one a i (λ z. not-both a i z t) t) same)
-      (λ (no′ : bit (b .ones) i ≡ 1 → ⊥). rw (← given-unknown b i nz no′) more)
-      (cases-eq (bit (b .ones) i) 1))
+    (λ (o : bit (b .ones) i ≡ 1). let t = r i .1 o in rw (← given-one b i nz o, ← given-one a i (λ z. not-both a i z t) t) same)
+    (λ (no′ : bit (b .ones) i ≡ 1 → ⊥). rw (← given-unknown b i nz no′) more)
+    (cases-eq (bit (b .ones) i) 1))
     (cases-eq (bit (b .zeros) i) 1)

@@ -62,15 +62,16 @@ module _ (c : Card) (s : Sound c) where
   own-inputs k a b h =
       ap (λ r. cond (ltb k (machines c)) r unknown)
       (seen-alike c (s .outputs-exist) (at c k a) (at c k b)
-        (lines-related Equal equal-kept c s (fault c k) a b (read (at c k a)) (read (at c k b)) (values-fit c s (fault c k) a) (values-fit c s (fault c k) b) (λ i l. given-equal a b i (h i l .0) (h i l .1))))
+      (lines-related Equal equal-kept c s (fault c k) a b (read (at c k a)) (read (at c k b)) (values-fit c s (fault c k) a) (values-fit c s (fault c k) b) (λ i l. given-equal a b i (h i l .0) (h i l .1))))
 
   refined : (k : ℕ) (a b : Cube) (o : ℕ) → Refines a b → (bit (meaning c .answer k b .zeros) o ≡ 1 → bit (meaning c .answer k a .zeros) o ≡ 1) × (bit (meaning c .answer k b .ones) o ≡ 1 → bit (meaning c .answer k a .ones) o ≡ 1)
   refined k a b o r =
       ⊎-elim
       (λ (l : k < machines c).
-        rw (lt-ltb k (machines c) l)
-        ( (λ p. let q = passes (λ i. is-zero (output c (at c k b) i)) (length (c .outputs)) o p in sets-bit (λ i. is-zero (output c (at c k a) i)) (length (c .outputs)) o (q .0) (stays is-zero refl (finer (q .0)) (q .1)))
-        , (λ p. let q = passes (λ i. is-one (output c (at c k b) i)) (length (c .outputs)) o p in sets-bit (λ i. is-one (output c (at c k a) i)) (length (c .outputs)) o (q .0) (stays is-one refl (finer (q .0)) (q .1)))))
+      rw (lt-ltb k (machines c) l) (
+        (λ p. let q = passes (λ i. is-zero (output c (at c k b) i)) (length (c .outputs)) o p in sets-bit (λ i. is-zero (output c (at c k a) i)) (length (c .outputs)) o (q .0) (stays is-zero refl (finer (q .0)) (q .1))),
+        (λ p. let q = passes (λ i. is-one (output c (at c k b) i)) (length (c .outputs)) o p in sets-bit (λ i. is-one (output c (at c k a) i)) (length (c .outputs)) o (q .0) (stays is-one refl (finer (q .0)) (q .1))),
+      ))
       (λ (l : machines c ≤ k). rw (le-ltb k (machines c) l) ((λ p. p), (λ p. p)))
       (cases-lt k (machines c))
     where
@@ -84,9 +85,9 @@ module _ (c : Card) (s : Sound c) where
       let fit = values-fit c s (fault c k) x in
       rw (lt-ltb k (machines c) l)
       (⊎-elim
-        (λ z. inl (sets-bit (λ i. is-zero (output c vs i)) (length (c .outputs)) o h z))
-        (λ z. inr (sets-bit (λ i. is-one (output c vs i)) (length (c .outputs)) o h z))
-        (sure-known (output c vs o) (lines-related (λ v _. Sure v) sure-kept c s (fault c k) x x (read vs) (read vs) fit fit (given-sure (c .inputs) v) (getD (c .outputs) o 0) (s .outputs-exist o h))))
+      (λ z. inl (sets-bit (λ i. is-zero (output c vs i)) (length (c .outputs)) o h z))
+      (λ z. inr (sets-bit (λ i. is-one (output c vs i)) (length (c .outputs)) o h z))
+      (sure-known (output c vs o) (lines-related (λ v _. Sure v) sure-kept c s (fault c k) x x (read vs) (read vs) fit fit (given-sure (c .inputs) v) (getD (c .outputs) o 0) (s .outputs-exist o h))))
 
   alike : (i j v o : ℕ) → i < machines c → j < machines c → v < 2 ^ c .inputs → Known (meaning c .answer i (vector (c .inputs) v)) o → Known (meaning c .answer j (vector (c .inputs) v)) o
   alike i j v o hi hj hv p = all-known j v o hj (known-below c (at c i (vector (c .inputs) v)) o (rw (lt-ltb i (machines c) hi) at p))

@@ -32,15 +32,15 @@ read-values c f x (suc n) k h =
     ⊎-elim
     (λ (l : k < n). getD-append-left (values c f x n) _ Unknown k (omega arith) ∙ read-values c f x n k l)
     (λ (l : n ≤ k).
-      let s : n ≡ k = omega arith in
-      subst (λ (m : ℕ). read (values c f x (suc n)) m ≡ line c f x m) s (getD-push (values c f x n) (line c f x n) Unknown n w))
+    let s : n ≡ k = omega arith in
+    subst (λ (m : ℕ). read (values c f x (suc n)) m ≡ line c f x m) s (getD-push (values c f x n) (line c f x n) Unknown n w))
     (cases-lt k n)
 
 pub values-fit : (c : Card) → Sound c → (f : Option Fault) (x : Cube) → Consistent c f x (read (values c f x (lines c)))
 values-fit c s f x k h =
     read-values c f x (lines c) k h ∙ ap (held f k)
     (itself-related Equal equal-kept c s x x (read (values c f x k)) (read (values c f x (lines c))) k h (λ _. refl)
-      (λ j l. read-values c f x k j l ∙ sym (read-values c f x (lines c) j (omega arith))))
+    (λ j l. read-values c f x k j l ∙ sym (read-values c f x (lines c) j (omega arith))))
 
 -- a list of nothing but the default
 pub nowhere : {X : Type 0} (d : X) (n j : ℕ) → getD (replicate n d) j d ≡ d
@@ -56,11 +56,11 @@ place-more d xs ys k x h e same j =
     ⊎-elim
     (λ (q : j ≡ k). rw q (getD-set-same xs k x d h ∙ sym (getD-push ys x d k e)))
     (λ (q : j ≡ k → ⊥).
-      getD-set-other xs k j x d q ∙ same j ∙
-      ⊎-elim
-      (λ (l : j < k). sym (getD-append-left ys (x ∷ []) d j (omega arith)))
-      (λ (l : k ≤ j). getD-past ys j d (omega arith) ∙ sym (getD-past (ys ++ (x ∷ [])) j d (let n : k < j = omega (arith, q) in omega arith)))
-      (cases-lt j k))
+    getD-set-other xs k j x d q ∙ same j ∙
+    ⊎-elim
+    (λ (l : j < k). sym (getD-append-left ys (x ∷ []) d j (omega arith)))
+    (λ (l : k ≤ j). getD-past ys j d (omega arith) ∙ sym (getD-past (ys ++ (x ∷ [])) j d (let n : k < j = omega (arith, q) in omega arith)))
+    (cases-lt j k))
     (cases-eq j k)
 
 -- a list with these values is what simulating gives
@@ -75,6 +75,7 @@ simulated c s k x vs e =
   where
     f : Option Fault
     f = fault c k
+
     fits : Consistent c (fault c k) x (read vs)
     fits j h = e j ∙ values-fit c s (fault c k) x j h ∙ ap (held (fault c k) j)
-      (itself-related Equal equal-kept c s x x (read (values c (fault c k) x (lines c))) (read vs) j h (λ _. refl) (λ i _. sym (e i)))
+        (itself-related Equal equal-kept c s x x (read (values c (fault c k) x (lines c))) (read vs) j h (λ _. refl) (λ i _. sym (e i)))

@@ -48,7 +48,7 @@ four-bytes (a ∷ (b ∷ (c ∷ (d ∷ rest)))) h = refl
 
 -- n pins are the first n fields, where zeros follow them
 pub padded : (n m : ℕ) (bs : List ℕ) → Bytes bs → length bs ≡ 2 * m → n ≤ m → zeros (drop (2 * n) bs) ≡ true →
-  (length (take n (words bs)) ≡ n) × (bs ≡ pin-bytes (take n (words bs)) ++ replicate (2 * m - 2 * n) 0)
+    (length (take n (words bs)) ≡ n) × (bs ≡ pin-bytes (take n (words bs)) ++ replicate (2 * m - 2 * n) 0)
 padded zero m bs b e l z =
     let k : 2 * m - 2 * 0 ≡ length bs = omega arith in
     (refl, zeros-all bs z ∙ ap (λ j. replicate j 0) (sym k))
@@ -59,11 +59,12 @@ padded (suc n) m (lo ∷ (hi ∷ bs)) b e l z =
     let z′ : zeros (drop (2 * n) bs) ≡ true = ap (λ j. zeros (drop j (lo ∷ (hi ∷ bs)))) (sym t) ∙ z in
     let small : lo < 256 = b 0 in
     let ih = padded n (m - 1) bs (λ i. b (suc (suc i))) (omega arith) (omega arith) z′ in
-    let k : 2 * (m - 1) - 2 * n ≡ 2 * m - 2 * suc n = omega arith in
-    ( ap suc (ih .0)
-    , ap (λ ys. lo ∷ (hi ∷ ys)) (ih .1 ∙ ap (λ j. pin-bytes (take n (words bs)) ++ replicate j 0) k)
-      ∙ ap (λ x. x ∷ (hi ∷ (pin-bytes (take n (words bs)) ++ replicate (2 * m - 2 * suc n) 0))) (sym (low-word lo hi small))
-      ∙ ap (λ x. low (word lo hi) ∷ (x ∷ (pin-bytes (take n (words bs)) ++ replicate (2 * m - 2 * suc n) 0))) (sym (high-word lo hi small)))
+    let k : 2 * (m - 1) - 2 * n ≡ 2 * m - 2 * suc n = omega arith in (
+      ap suc (ih .0),
+      ap (λ ys. lo ∷ (hi ∷ ys)) (ih .1 ∙ ap (λ j. pin-bytes (take n (words bs)) ++ replicate j 0) k)
+          ∙ ap (λ x. x ∷ (hi ∷ (pin-bytes (take n (words bs)) ++ replicate (2 * m - 2 * suc n) 0))) (sym (low-word lo hi small))
+          ∙ ap (λ x. low (word lo hi) ∷ (x ∷ (pin-bytes (take n (words bs)) ++ replicate (2 * m - 2 * suc n) 0))) (sym (high-word lo hi small)),
+    )
 
 pub length-pin-bytes : (ps : List ℕ) → length (pin-bytes ps) ≡ 2 * length ps
 length-pin-bytes [] = refl

@@ -51,11 +51,11 @@ extend a n c built r sixteen ok =
     record {
       long = omega arith;
       good = λ q h. ⊎-elim
-        (λ (lt : q < n). let m : 16 * suc q ≤ length a = omega arith in
+          (λ (lt : q < n). let m : 16 * suc q ≤ length a = omega arith in
           ap (λ x. trouble (counts x) (record-at (a ++ r) q)) (so-far-front a r q (omega arith)) ∙ ap (trouble (counts (so-far a q))) (record-front a r q m) ∙ built .good q lt)
-        (λ (ge : n ≤ q). let s : n ≡ q = omega arith in
+          (λ (ge : n ≤ q). let s : n ≡ q = omega arith in
           subst (λ (m : ℕ). trouble (counts (so-far (a ++ r) m)) (record-at (a ++ r) m) ≡ None) s (ap (λ x. trouble (counts x) (record-at (a ++ r) n)) front ∙ ap (trouble (counts c)) last ∙ ok))
-        (cases-lt q n);
+          (cases-lt q n);
       is = ap (λ x. with-record x (record-at (a ++ r) n)) front ∙ ap (with-record c) last;
     }
   where
@@ -76,12 +76,12 @@ module _ {X : Type 0} (of : List X → Card) (rec : X → List ℕ)
   items (x ∷ todo) done n built s =
       let p = passes done todo x s in
       let next : Built (file (of (done ++ (x ∷ [])))) (suc n) (of (done ++ (x ∷ []))) =
-          subst (λ (bs : List ℕ). Built bs (suc n) (of (done ++ (x ∷ [])))) (sym (end done x)) (subst (Built (file (of done) ++ rec x) (suc n)) (p .2) (extend (file (of done)) n (of done) built (rec x) (p .0) (p .1))) in
+      subst (λ (bs : List ℕ). Built bs (suc n) (of (done ++ (x ∷ [])))) (sym (end done x)) (subst (Built (file (of done) ++ rec x) (suc n)) (p .2) (extend (file (of done)) n (of done) built (rec x) (p .0) (p .1))) in
       let e : (done ++ (x ∷ [])) ++ todo ≡ done ++ (x ∷ todo) = append-assoc done (x ∷ []) todo in
       let m : suc n + length todo ≡ n + length (x ∷ todo) = omega arith in
       subst (λ (k : ℕ). Built (file (of (done ++ (x ∷ todo)))) k (of (done ++ (x ∷ todo)))) m
       (subst (λ (xs : List X). Built (file (of xs)) (suc n + length todo) (of xs)) e
-        (items todo (done ++ (x ∷ [])) (suc n) next (subst (λ (xs : List X). Sound (of xs)) (sym e) s)))
+      (items todo (done ++ (x ∷ [])) (suc n) next (subst (λ (xs : List X). Sound (of xs)) (sym e) s)))
 
 -- inputs
 inputs-built : (n : ℕ) → n ≤ 16 → Built (file (card n [] [] [])) n (card n [] [] [])
@@ -90,14 +90,14 @@ inputs-built (suc n) h =
     let b = inputs-built n (omega arith) in
     let e : n + 1 ≡ suc n = add-one n in
     let ok : trouble (counts (card n [] [] [])) input-record ≡ None =
-        none-wrong Input (counts (card n [] [] [])) 0 0 (replicate 12 0) (record { ordered = refl; room = lt-ltb n 16 (omega arith); fits = refl; exist = refl; zero = refl }) in
+    none-wrong Input (counts (card n [] [] [])) 0 0 (replicate 12 0) (record { ordered = refl; room = lt-ltb n 16 (omega arith); fits = refl; exist = refl; zero = refl }) in
     subst (λ (m : ℕ). Built (file (card m [] [] [])) (suc n) (card m [] [] [])) e
     (subst (λ (bs : List ℕ). Built bs (suc n) (card (n + 1) [] [] [])) (sym (input-end n [] [] [] refl refl refl))
-      (extend (file (card n [] [] [])) n (card n [] [] []) b input-record refl ok))
+    (extend (file (card n [] [] [])) n (card n [] [] []) b input-record refl ok))
 
 -- a gate among others passes after those before it
 gate-passes : (n : ℕ) (xs ys : List Gate) (g : Gate) → Sound (card n (xs ++ (g ∷ ys)) [] []) →
-  (length (gate-record g) ≡ 16) × (trouble (counts (card n xs [] [])) (gate-record g) ≡ None) × (with-record (card n xs [] []) (gate-record g) ≡ card n (xs ++ (g ∷ [])) [] [])
+    (length (gate-record g) ≡ 16) × (trouble (counts (card n xs [] [])) (gate-record g) ≡ None) × (with-record (card n xs [] []) (gate-record g) ≡ card n (xs ++ (g ∷ [])) [] [])
 gate-passes n xs ys g s =
     let l = length-append xs (g ∷ ys) in
     let at : getD (xs ++ (g ∷ ys)) (length xs) no-gate ≡ g = getD-at xs g ys no-gate (length xs) refl in
@@ -109,33 +109,35 @@ gate-passes n xs ys g s =
     let rest : List ℕ = pin-bytes ps ++ pad in
     let w : word (low (length ps)) (high (length ps)) ≡ length ps = word-low (length ps) in
     let long : length rest ≡ 12 = let a = length-append (pin-bytes ps) pad in let b = length-pin-bytes ps in let d : length pad ≡ 12 - 2 * length ps = length-replicate (12 - 2 * length ps) 0 in omega (arith, few .1) in
-    let few-lines = s .few-lines in
-    ( omega arith
-    , none-wrong GateRecord (counts (card n xs [] [])) (code (g .kind)) (word (low (length ps)) (high (length ps))) rest
-        (record {
-          ordered = refl;
-          room = lt-ltb (n + length xs) 512 (omega arith);
-          fits = ap (λ o. gate-fits o (word (low (length ps)) (high (length ps)))) (kind-back (g .kind)) ∙ ap (pins-fit (g .kind)) w ∙ fit;
-          exist = ap (λ m. all-below (n + length xs) (take m (words rest))) w ∙ ap (all-below (n + length xs)) (pins-back ps pad) ∙ each-below (n + length xs) ps early;
-          zero = ap (λ m. zeros (drop (2 * m) rest)) w ∙ zeros-after ps (12 - 2 * length ps);
-        })
-    , ap (λ o. with-gate (card n xs [] []) (kind-or o) (take (word (low (length ps)) (high (length ps))) (words rest))) (kind-back (g .kind))
-      ∙ ap (λ m. with-gate (card n xs [] []) (g .kind) (take m (words rest))) w
-      ∙ ap (with-gate (card n xs [] []) (g .kind)) (pins-back ps pad))
+    let few-lines = s .few-lines in (
+      omega arith,
+      none-wrong GateRecord (counts (card n xs [] [])) (code (g .kind)) (word (low (length ps)) (high (length ps))) rest
+          (record {
+            ordered = refl;
+            room = lt-ltb (n + length xs) 512 (omega arith);
+            fits = ap (λ o. gate-fits o (word (low (length ps)) (high (length ps)))) (kind-back (g .kind)) ∙ ap (pins-fit (g .kind)) w ∙ fit;
+            exist = ap (λ m. all-below (n + length xs) (take m (words rest))) w ∙ ap (all-below (n + length xs)) (pins-back ps pad) ∙ each-below (n + length xs) ps early;
+            zero = ap (λ m. zeros (drop (2 * m) rest)) w ∙ zeros-after ps (12 - 2 * length ps);
+          }),
+      ap (λ o. with-gate (card n xs [] []) (kind-or o) (take (word (low (length ps)) (high (length ps))) (words rest))) (kind-back (g .kind))
+          ∙ ap (λ m. with-gate (card n xs [] []) (g .kind) (take m (words rest))) w
+          ∙ ap (with-gate (card n xs [] []) (g .kind)) (pins-back ps pad),
+    )
 
 -- and so does an output
 output-passes : (n : ℕ) (gs : List Gate) (xs ys : List ℕ) (o : ℕ) → Sound (card n gs (xs ++ (o ∷ ys)) []) →
-  (length (output-record o) ≡ 16) × (trouble (counts (card n gs xs [])) (output-record o) ≡ None) × (with-record (card n gs xs []) (output-record o) ≡ card n gs (xs ++ (o ∷ [])) [])
+    (length (output-record o) ≡ 16) × (trouble (counts (card n gs xs [])) (output-record o) ≡ None) × (with-record (card n gs xs []) (output-record o) ≡ card n gs (xs ++ (o ∷ [])) [])
 output-passes n gs xs ys o s =
     let l = length-append xs (o ∷ ys) in
     let at : getD (xs ++ (o ∷ ys)) (length xs) 0 ≡ o = getD-at xs o ys 0 (length xs) refl in
     let there : o < n + length gs = let e = s .outputs-exist (length xs) (omega arith) in omega arith in
     let w : word (low o) (high o) ≡ o = word-low o in
-    let few = s .few-outputs in
-    ( refl
-    , none-wrong Output (counts (card n gs xs [])) 0 (word (low o) (high o)) (replicate 12 0)
-        (record { ordered = refl; room = lt-ltb (length xs) 32 (omega arith); fits = refl; exist = lt-ltb (word (low o) (high o)) (n + length gs) (omega arith); zero = refl })
-    , ap (λ m. card n gs (xs ++ (m ∷ [])) []) w)
+    let few = s .few-outputs in (
+      refl,
+      none-wrong Output (counts (card n gs xs [])) 0 (word (low o) (high o)) (replicate 12 0)
+          (record { ordered = refl; room = lt-ltb (length xs) 32 (omega arith); fits = refl; exist = lt-ltb (word (low o) (high o)) (n + length gs) (omega arith); zero = refl }),
+      ap (λ m. card n gs (xs ++ (m ∷ [])) []) w,
+    )
 
 stuck-back : (b : Bool) → eqb (cond b 1 0) 1 ≡ b
 stuck-back true = refl
@@ -146,20 +148,25 @@ fault-with l b = record { line = l; stuck = b }
 
 -- and a fault
 fault-passes : (n : ℕ) (gs : List Gate) (os : List ℕ) (xs ys : List Fault) (f : Fault) → Sound (card n gs os (xs ++ (f ∷ ys))) →
-  (length (fault-record f) ≡ 16) × (trouble (counts (card n gs os xs)) (fault-record f) ≡ None) × (with-record (card n gs os xs) (fault-record f) ≡ card n gs os (xs ++ (f ∷ [])))
+    (length (fault-record f) ≡ 16) × (trouble (counts (card n gs os xs)) (fault-record f) ≡ None) × (with-record (card n gs os xs) (fault-record f) ≡ card n gs os (xs ++ (f ∷ [])))
 fault-passes n gs os xs ys f s =
     let l = length-append xs (f ∷ ys) in
     let at : getD (xs ++ (f ∷ ys)) (length xs) no-fault ≡ f = getD-at xs f ys no-fault (length xs) refl in
     let there : f .line < n + length gs = subst (λ (x : Fault). x .line < n + length gs) at (s .faults-exist (length xs) (omega arith)) in
     let w : word (low (f .line)) (high (f .line)) ≡ f .line = word-low (f .line) in
-    let few = s .few-faults in
-    ( refl
-    , none-wrong FaultRecord (counts (card n gs os xs)) (cond (f .stuck) 1 0) (word (low (f .line)) (high (f .line))) (replicate 12 0)
-        (record { ordered = refl; room = lt-ltb (length xs) 255 (omega arith);
-          fits = elim (f .stuck) as (λ b. leb (cond b 1 0) 1 ≡ true) [ true ↦ refl | false ↦ refl ];
-          exist = lt-ltb (word (low (f .line)) (high (f .line))) (n + length gs) (omega arith); zero = refl })
-    , ap (λ m. card n gs os (xs ++ (fault-with m (eqb (cond (f .stuck) 1 0) 1) ∷ []))) w
-      ∙ ap (λ b. card n gs os (xs ++ (fault-with (f .line) b ∷ []))) (stuck-back (f .stuck)))
+    let few = s .few-faults in (
+      refl,
+      none-wrong FaultRecord (counts (card n gs os xs)) (cond (f .stuck) 1 0) (word (low (f .line)) (high (f .line))) (replicate 12 0)
+          (record {
+            ordered = refl;
+            room = lt-ltb (length xs) 255 (omega arith);
+            fits = elim (f .stuck) as (λ b. leb (cond b 1 0) 1 ≡ true) [ true ↦ refl | false ↦ refl ];
+            exist = lt-ltb (word (low (f .line)) (high (f .line))) (n + length gs) (omega arith);
+            zero = refl;
+          }),
+      ap (λ m. card n gs os (xs ++ (fault-with m (eqb (cond (f .stuck) 1 0) 1) ∷ []))) w
+          ∙ ap (λ b. card n gs os (xs ++ (fault-with (f .line) b ∷ []))) (stuck-back (f .stuck)),
+    )
 
 -- a well-formed card without its faults, and without its outputs too
 no-faults-sound : (n : ℕ) (gs : List Gate) (os : List ℕ) (fs : List Fault) → Sound (card n gs os fs) → Sound (card n gs os [])

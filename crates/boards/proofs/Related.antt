@@ -47,12 +47,12 @@ itself-related R r c s a b v w k h inputs before =
     ⊎-elim
     (λ (l : k < c .inputs). rw (lt-ltb k (c .inputs) l) (inputs l))
     (λ (l : c .inputs ≤ k).
-      let g : Gate = gate-at c k in
-      let i : ℕ = k - c .inputs in
-      let in′ : i < length (c .gates) = omega arith in
-      rw (le-ltb k (c .inputs) l)
-      (r .at-gate (g .kind) v w (g .pins) (few-pins (g .kind) (length (g .pins)) (s .pin-counts i in′) .0)
-        (each (λ j. R (v j) (w j)) (g .pins) (λ p q. before (getD (g .pins) p 0) (let e = s .earlier i p in′ q in omega arith)))))
+    let g : Gate = gate-at c k in
+    let i : ℕ = k - c .inputs in
+    let in′ : i < length (c .gates) = omega arith in
+    rw (le-ltb k (c .inputs) l)
+    (r .at-gate (g .kind) v w (g .pins) (few-pins (g .kind) (length (g .pins)) (s .pin-counts i in′) .0)
+    (each (λ j. R (v j) (w j)) (g .pins) (λ p q. before (getD (g .pins) p 0) (let e = s .earlier i p in′ q in omega arith)))))
     (cases-lt k (c .inputs))
 
 pub lines-related : (R : Value → Value → Type 0) → Kept R → (c : Card) → Sound c → (f : Option Fault) (a b : Cube) (v w : ℕ → Value) →

@@ -95,7 +95,7 @@ output c vs o = read vs (getD (c .outputs) o 0)
 abbrev pub seen-at : Card → List Value → Answer
 seen-at c vs = record {
   zeros = maskOf (λ o. is-zero (output c vs o)) (length (c .outputs));
-  ones = maskOf (λ o. is-one (output c vs o)) (length (c .outputs))
+  ones = maskOf (λ o. is-one (output c vs o)) (length (c .outputs));
 }
 
 -- what a card means as a device; a machine that does not exist answers nothing
@@ -104,7 +104,7 @@ meaning c = record {
   inputs = c .inputs;
   outputs = length (c .outputs);
   machines = machines c;
-  answer = λ k x. cond (ltb k (machines c)) (seen-at c (values c (fault c k) x (lines c))) unknown
+  answer = λ k x. cond (ltb k (machines c)) (seen-at c (values c (fault c k) x (lines c))) unknown;
 }
 
 -- what simulating machine k at a cube gives: the one list of line values that fits, and so the machine's answer

@@ -5,11 +5,11 @@ ghost use Prim.Native.Nat.{ℕ, _<_, _≤_, _+_, _^_};
 ghost use Rattle.boards.specs.Values.{is-zero, is-one};
 ghost use Rattle.boards.specs.Cards.{seen-at, meaning};
 ghost use Rattle.boards.specs.Boards.{card-of};
+use crate::board::Board;
+use crate::parts::Value;
 use cubes::cube::Cube;
 use devices::answer::Answer;
 use devices::device::Device;
-use crate::board::Board;
-use crate::parts::Value;
 
 fn zero(v: Value) -> bool
     ensures { λ r. ⌜ r ≡ is-zero v ⌝ }

@@ -2,9 +2,9 @@
 ghost use mathlib.Core.Path.{_≡_};
 ghost use Rattle.std.specs.Vec.{made};
 ghost use Rattle.boards.specs.Boards.{card-of, no-card};
+use crate::board::Board;
 use std::alloc::AllocError;
 use std::alloc::Global;
-use crate::board::Board;
 
 impl Board {
     // The board of an empty file. All memory that a board ever needs is claimed here, so that reading never

@@ -198,12 +198,37 @@ pub(crate) fn count_record(seen: Seen, mark: u8) -> Seen
     requires { ⌜ seen .inputs < 1000 ⌝ ∗ ⌜ seen .gates < 1000 ⌝ ∗ ⌜ seen .outputs < 1000 ⌝ ∗ ⌜ seen .faults < 1000 ⌝ }
     ensures { λ r. ⌜ r ≡ counted seen mark ⌝ }
 {
-    let Seen { inputs, gates, outputs, faults } = seen;
+    let Seen {
+        inputs,
+        gates,
+        outputs,
+        faults,
+    } = seen;
     match class_of(mark) {
-        Some(Class::Input) => Seen { inputs: inputs + 1, gates, outputs, faults },
-        Some(Class::Gate) => Seen { inputs, gates: gates + 1, outputs, faults },
-        Some(Class::Output) => Seen { inputs, gates, outputs: outputs + 1, faults },
-        Some(Class::Fault) => Seen { inputs, gates, outputs, faults: faults + 1 },
+        Some(Class::Input) => Seen {
+            inputs: inputs + 1,
+            gates,
+            outputs,
+            faults,
+        },
+        Some(Class::Gate) => Seen {
+            inputs,
+            gates: gates + 1,
+            outputs,
+            faults,
+        },
+        Some(Class::Output) => Seen {
+            inputs,
+            gates,
+            outputs: outputs + 1,
+            faults,
+        },
+        Some(Class::Fault) => Seen {
+            inputs,
+            gates,
+            outputs,
+            faults: faults + 1,
+        },
         None => seen,
     }
 }

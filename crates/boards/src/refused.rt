@@ -2,13 +2,13 @@
 ghost use mathlib.Core.Path.{_≡_};
 ghost use Rattle.texts.specs.Texts.{Lent};
 ghost use Rattle.boards.specs.Refusing.{trouble-number, number as number-of, named, refused-line};
+use crate::refusal::Trouble;
+use crate::refusal::Unread;
 use texts::decimal::decimal_length;
 use texts::decimal::put_decimal;
 use texts::short::TextTooShort;
 use texts::writing::put;
 use texts::writing::put_all;
-use crate::refusal::Trouble;
-use crate::refusal::Unread;
 
 impl Trouble {
     // The number by which the shop knows what is wrong with a record.

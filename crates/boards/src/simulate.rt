@@ -3,11 +3,11 @@ ghost use mathlib.Core.Path.{_≡_};
 ghost use Prim.Native.Nat.{ℕ, _<_, _≤_, _+_};
 ghost use Rattle.boards.specs.Cards.{lines, given, fault, held, by-itself, read, Simulated};
 ghost use Rattle.boards.specs.Boards.{card-of};
-use cubes::cube::Cube;
 use crate::board::Board;
 use crate::gates::made_of;
 use crate::parts::Fault;
 use crate::parts::Value;
+use cubes::cube::Cube;
 
 // What a cube says of an input.
 fn input_value(cube: Cube, i: usize) -> Value

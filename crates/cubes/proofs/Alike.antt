@@ -7,9 +7,11 @@ use native.Mathlib.Nat.{ℕ-set, mod-eq-of-lt}
 use native.Mathlib.Omega.{arith}
 use mathlib.Core.Logic.{⊎-elim}
 use lib.Bits.{bitAnd, bitOr}
-use Rattle.std.proofs.shelf.Tests.{cases-bool, or-parts, eq-eqb, ne-eqb}
+use Rattle.std.proofs.shelf.Tests.{cases-bool, or-parts, eq-eqb, ne-eqb, eqb-true, eqb-false, not-true}
 use Rattle.cubes.specs.Masks.{bit, share}
-use Rattle.cubes.specs.Cubes.{vector, opposed, letter}
+use Rattle.std.specs.declared.option.Option.{Option}
+use Rattle.std.specs.declared.option.Option.the-variants.{Some, None}
+use Rattle.cubes.specs.Cubes.{Has-masks, of-masks-by, of-masks, vector, opposed, letter}
 use Rattle.cubes.specs.declared.cube.Cube.{Cube}
 use Rattle.cubes.proofs.Bits.{bit-and, bit-or, bit-zero, share-at, none-shared}
 
@@ -75,3 +77,35 @@ pub letter-ascii : (c : Cube) (i : ℕ) → letter c i < 128
 letter-ascii c i =
     elim (eqb (bit (c .zeros) i) 1) as (λ t. cond t 48 (cond (eqb (bit (c .ones) i) 1) 49 88) < 128)
     [ true ↦ omega arith | false ↦ elim (eqb (bit (c .ones) i) 1) as (λ t. cond t 49 88 < 128) [ true ↦ omega arith | false ↦ omega arith ] ]
+
+-- masks that share no input make the cube that has them
+by-apart : (z o : ℕ) (c : Cube) → c .zeros ≡ z → c .ones ≡ o → (b : Bool) (e : eqb (bitAnd z o) 0 ≡ b) → of-masks-by z o b e ≡ Some c
+by-apart z o c p q true e = ap Some (same-cube _ c (sym p) (sym q))
+by-apart z o c p q false e = absurd (eqb-false (bitAnd z o) 0 e (ap (λ x. bitAnd x o) (sym p) ∙ ap (bitAnd (c .zeros)) (sym q) ∙ c .apart))
+
+pub of-masks-is : (z o : ℕ) (c : Cube) → c .zeros ≡ z → c .ones ≡ o → of-masks z o ≡ Some c
+of-masks-is z o c p q = by-apart z o c p q (eqb (bitAnd z o) 0) refl
+
+by-shared : (z o : ℕ) → share z o ≡ true → (b : Bool) (e : eqb (bitAnd z o) 0 ≡ b) → of-masks-by z o b e ≡ None
+by-shared z o h true e = absurd (eqb-false (bitAnd z o) 0 (not-true _ h) (eqb-true (bitAnd z o) 0 e))
+by-shared z o h false e = refl
+
+-- masks that share one make none
+pub of-masks-none : (z o : ℕ) → share z o ≡ true → of-masks z o ≡ None
+of-masks-none z o h = by-shared z o h (eqb (bitAnd z o) 0) refl
+
+-- the cube that two masks make has them
+pub masks-of : (z o : ℕ) (c : Cube) → of-masks z o ≡ Some c → Has-masks z o c
+masks-of z o c e = step (eqb (bitAnd z o) 0) refl e
+  where
+    step : (b : Bool) (h : eqb (bitAnd z o) 0 ≡ b) → of-masks-by z o b h ≡ Some c → Has-masks z o c
+    step true h f = (sym (ap zeros-of f), sym (ap ones-of f))
+      where
+        zeros-of : Option Cube → ℕ
+        zeros-of None = c .zeros
+        zeros-of (Some x) = x .zeros
+
+        ones-of : Option Cube → ℕ
+        ones-of None = c .ones
+        ones-of (Some x) = x .ones
+    step false h f = let z : _≡_ {A = ℕ} 0 1 = cc in absurd (omega arith)

@@ -1,4 +1,5 @@
--- The bits of masks: of a conjunction, a disjunction, a mask made by a test, and what two masks share.
+-- The bits of masks: of a conjunction, a disjunction, a mask made by a test, and what two masks share; and how many
+-- vectors there are.
 use mathlib.Core.Path.{_≡_, refl, sym, ap, subst, _∙_}
 use mathlib.Core.Bool.{Bool, true, false, cond, not}
 use mathlib.Core.Logic.{_⊎_, inl, inr, ⊎-elim}
@@ -10,6 +11,7 @@ use lib.Bits.{bitAnd, bitOr, and-le-l, and-mask, and-step, or-step, and-shr, or-
 use lib.Pow.{pow-pos, shr-shr, pow-lt, pow-add, pow-mono}
 use lib.Dec.{eqb}
 use Rattle.std.proofs.shelf.Tests.{cases-eq, cases-lt, ne-eqb, eqb-false, eq-eqb, not-true, not-from-false, not-from-true, both-ways}
+use Rattle.std.proofs.shelf.Bits.{one-shl}
 use Rattle.cubes.specs.Masks.{bit, maskOf, share}
 
 pub bit-and : (a b i : ℕ) → bit (bitAnd a b) i ≡ min (bit a i) (bit b i)
@@ -82,9 +84,9 @@ bit-maskOf p zero i h = absurd (omega arith)
 bit-maskOf p (suc n) i h =
     ⊎-elim
     (λ (l : i < n). let ih = bit-maskOf p n i l in
-        elim (p n) as (λ b. bit (maskOf p n + cond b (2 ^ n) 0) i ≡ cond (p i) 1 0) [ true ↦ bit-add-below (maskOf p n) n i l ∙ ih | false ↦ rw add-zero ih ])
+    elim (p n) as (λ b. bit (maskOf p n + cond b (2 ^ n) 0) i ≡ cond (p i) 1 0) [ true ↦ bit-add-below (maskOf p n) n i l ∙ ih | false ↦ rw add-zero ih ])
     (λ (l : n ≤ i). let s : i ≡ n = omega arith in
-        rw s (elim (p n) as (λ b. bit (maskOf p n + cond b (2 ^ n) 0) n ≡ cond b 1 0) [ true ↦ bit-add-at (maskOf p n) n (maskOf-lt p n) | false ↦ rw add-zero (bit-above (maskOf p n) n n (maskOf-lt p n) (omega arith)) ]))
+    rw s (elim (p n) as (λ b. bit (maskOf p n + cond b (2 ^ n) 0) n ≡ cond b 1 0) [ true ↦ bit-add-at (maskOf p n) n (maskOf-lt p n) | false ↦ rw add-zero (bit-above (maskOf p n) n n (maskOf-lt p n) (omega arith)) ]))
     (cases-lt i n)
 
 -- the rest of the places below n
@@ -139,9 +141,9 @@ share-at a b h =
 pub share-from : (a b o : ℕ) → bit a o ≡ 1 → bit b o ≡ 1 → share a b ≡ true
 share-from a b o p q =
     not-from-false _ (ne-eqb (bitAnd a b) 0 (λ z.
-      let e = bit-and a b o in
-      let y : bit (bitAnd a b) o ≡ 0 = rw z (bit-zero o) in
-      omega arith))
+    let e = bit-and a b o in
+    let y : bit (bitAnd a b) o ≡ 0 = rw z (bit-zero o) in
+    omega arith))
 
 pub share-none : (a b : ℕ) → bitAnd a b ≡ 0 → share a b ≡ false
 share-none a b e = not-from-true _ (eq-eqb (bitAnd a b) 0 e)
@@ -171,3 +173,7 @@ bits-within w a b h k =
 -- `m >> i & 1` is bit i
 pub low-bit : (m i : ℕ) → bitAnd (m / 2 ^ i) 1 ≡ bit m i
 low-bit m i = and-mask (m / 2 ^ i) 1
+
+-- shifting 1 up by the number of inputs gives the number of vectors, which are few
+pub vectors-counted : (n m : ℕ) → n ≡ m → m ≤ 16 → ((1 * 2 ^ n) % 2 ^ 32 ≡ 2 ^ m) × (2 ^ m ≤ 2 ^ 16)
+vectors-counted n m e h = rw e (one-shl m 32 (omega arith), pow-mono h)

@@ -1,5 +1,5 @@
 -- Cubes, vectors, refinement, the common refinement of two cubes, and letters.
-use mathlib.Core.Path.{_≡_, ap, subst, _∙_}
+use mathlib.Core.Path.{_≡_, refl, _∙_}
 use mathlib.Core.Bool.{Bool, true, false, cond, _||_}
 use mathlib.Core.List.{List, map}
 use Prim.Native.Nat.{ℕ, zero, suc, _+_, _-_, _*_, _/_, _%_, _^_, _<_, _≤_, min}
@@ -7,6 +7,7 @@ use native.Mathlib.Nat.{mod-lt, pow-suc}
 use native.Mathlib.Omega.{arith}
 use lib.Bits.{bitAnd, bitOr, and-step}
 use lib.Dec.{eqb}
+use borrow.Author.Tests.{eqb-true}
 use lib.Pow.{pow-pos}
 use Rattle.std.specs.Iters.{counting}
 use Rattle.std.specs.declared.result.Result.{Result}
@@ -31,6 +32,14 @@ Has-masks zeros ones c = (c .zeros ≡ zeros) × (c .ones ≡ ones)
 abbrev pub Made : ℕ → ℕ → Result Cube NoCube → Type 0
 Made zeros ones (Ok c) = Has-masks zeros ones c
 Made zeros ones (Err e) = (share zeros ones ≡ true) × (e ≡ InputInBoth)
+
+abbrev pub of-masks-by : (zeros ones : ℕ) (apart : Bool) → eqb (bitAnd zeros ones) 0 ≡ apart → Option Cube
+of-masks-by z o true e = Some (record { zeros = z; ones = o; apart = eqb-true (bitAnd z o) 0 e })
+of-masks-by z o false e = None
+
+-- the cube of two masks, none where an input is in both; rows hold plain masks, and this is their cube
+abbrev pub of-masks : ℕ → ℕ → Option Cube
+of-masks z o = of-masks-by z o (eqb (bitAnd z o) 0) refl
 
 -- a refines b: it has every 0 and every 1 of b
 abbrev pub Refines : Cube → Cube → Type 0

@@ -1,7 +1,7 @@
 -- The smallest number that passes a test: what every search through vectors answers.
 use mathlib.Core.Path.{_≡_}
-use mathlib.Core.Bool.{Bool, true, false}
-use Prim.Native.Nat.{ℕ, _<_}
+use mathlib.Core.Bool.{Bool, true, false, cond}
+use Prim.Native.Nat.{ℕ, zero, suc, _<_}
 use Rattle.std.specs.declared.option.Option.{Option}
 use Rattle.std.specs.declared.option.Option.the-variants.{Some, None}
 
@@ -17,3 +17,13 @@ Smallest n test k = (k < n) × (test k ≡ true) × None-below k test
 abbrev pub First : ℕ → (ℕ → Bool) → Option ℕ → Type 0
 First n test (Some k) = Smallest n test k
 First n test None = None-below n test
+
+-- the same as a function: n where the test is passed and nothing below was found
+abbrev pub or-here : Option ℕ → ℕ → Bool → Option ℕ
+or-here (Some k) n passes = Some k
+or-here None n passes = cond passes (Some n) None
+
+-- the smallest number below n that passes the test
+abbrev pub least : ℕ → (ℕ → Bool) → Option ℕ
+least zero test = None
+least (suc n) test = or-here (least n test) n (test n)

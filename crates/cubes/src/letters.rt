@@ -3,10 +3,10 @@ ghost use mathlib.Core.Path.{_≡_};
 ghost use Rattle.std.specs.Vec.{made};
 ghost use Rattle.std.specs.Of.String.{string-bytes};
 ghost use Rattle.cubes.specs.Cubes.{letter, letters};
-use std::alloc::AllocError;
-use std::alloc::Global;
 use crate::cube::Cube;
 use crate::mask::MOST_INPUTS;
+use std::alloc::AllocError;
+use std::alloc::Global;
 
 impl Cube {
     // The letter of an input: 0, 1 or X where it is unknown. No input past the last is known.

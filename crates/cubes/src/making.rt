@@ -2,8 +2,8 @@
 ghost use mathlib.Core.Path.{_≡_};
 ghost use Rattle.cubes.specs.Cubes.{number, Made, Numbered};
 use crate::cube::Cube;
-use crate::mask::Mask;
 use crate::mask::MOST_INPUTS;
+use crate::mask::Mask;
 use crate::refusal::NoCube;
 
 impl NoCube {

@@ -44,12 +44,12 @@ module _ (m : Meaning) (law : Lawful m) where
 
   -- a machine between two that are opposed at an output is opposed to one of them there, since it knows the output too
   between : (i j k v : ℕ) → i < m .machines → j < m .machines → v < vectors m → (o : ℕ) →
-    Opposed (m .answer i (vector (m .inputs) v)) (m .answer k (vector (m .inputs) v)) o →
-    Opposed (m .answer i (vector (m .inputs) v)) (m .answer j (vector (m .inputs) v)) o ⊎ Opposed (m .answer j (vector (m .inputs) v)) (m .answer k (vector (m .inputs) v)) o
+      Opposed (m .answer i (vector (m .inputs) v)) (m .answer k (vector (m .inputs) v)) o →
+      Opposed (m .answer i (vector (m .inputs) v)) (m .answer j (vector (m .inputs) v)) o ⊎ Opposed (m .answer j (vector (m .inputs) v)) (m .answer k (vector (m .inputs) v)) o
   between i j k v hi hj hv o =
       ⊎-elim
-      (λ p. ⊎-elim (λ z. inr (inl (z , p .1))) (λ u. inl (inl (p .0 , u))) (law .alike i j v o hi hj hv (inl (p .0))))
-      (λ p. ⊎-elim (λ z. inl (inr (p .0 , z))) (λ u. inr (inr (u , p .1))) (law .alike i j v o hi hj hv (inr (p .0))))
+      (λ p. ⊎-elim (λ z. inr (inl (z, p .1))) (λ u. inl (inl (p .0, u))) (law .alike i j v o hi hj hv (inl (p .0))))
+      (λ p. ⊎-elim (λ z. inl (inr (p .0, z))) (λ u. inr (inr (u, p .1))) (law .alike i j v o hi hj hv (inr (p .0))))
 
   pub same-through : (i j k : ℕ) → i < m .machines → j < m .machines → Equivalent-machines m i j → Equivalent-machines m j k → Equivalent-machines m i k
   same-through i j k hi hj p q v hv = never _ (λ t.

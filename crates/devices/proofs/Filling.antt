@@ -13,8 +13,8 @@ filled P xs d i v h below here k l =
     ⊎-elim
     (λ (lt : k < i). subst (P k) (sym (getD-set-other xs i k v d (λ e. omega arith))) (below k lt))
     (λ (ge : i ≤ k).
-      let s : i ≡ k = omega arith in
-      subst (λ (j : ℕ). P j (getD (set xs i v) j d)) s (subst (P i) (sym (getD-set-same xs i v d h)) here))
+    let s : i ≡ k = omega arith in
+    subst (λ (j : ℕ). P j (getD (set xs i v) j d)) s (subst (P i) (sym (getD-set-same xs i v d h)) here))
     (cases-lt k i)
 
 -- what holds of each element holds of each with one more of which it holds
@@ -24,6 +24,6 @@ pushed P d xs x each here i l =
     ⊎-elim
     (λ (h : i < length xs). subst (P i) (sym (getD-append-left xs (x ∷ []) d i h)) (each i h))
     (λ (h : length xs ≤ i).
-      let s : length xs ≡ i = omega arith in
-      subst (P i) (sym (getD-at xs x [] d i s)) (subst (λ (k : ℕ). P k x) s here))
+    let s : length xs ≡ i = omega arith in
+    subst (P i) (sym (getD-at xs x [] d i s)) (subst (λ (k : ℕ). P k x) s here))
     (cases-lt i (length xs))

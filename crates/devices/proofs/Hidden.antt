@@ -34,10 +34,11 @@ masked-lawful m mask law = record {
   not-both = λ k c o p q. law .not-both k c o (both (m .answer k c .zeros) mask o p .0) (both (m .answer k c .ones) mask o q .0);
   none-above = λ k c o h p. law .none-above k c o h (known-in mask (m .answer k c) o p .0);
   own-inputs = λ k a b h. ap (kept mask) (law .own-inputs k a b h);
-  refined = λ k a b o h.
-    ( (λ p. let q = both (m .answer k b .zeros) mask o p in one (m .answer k a .zeros) mask o (law .refined k a b o h .0 (q .0)) (q .1))
-    , (λ p. let q = both (m .answer k b .ones) mask o p in one (m .answer k a .ones) mask o (law .refined k a b o h .1 (q .0)) (q .1)));
+  refined = λ k a b o h. (
+    (λ p. let q = both (m .answer k b .zeros) mask o p in one (m .answer k a .zeros) mask o (law .refined k a b o h .0 (q .0)) (q .1)),
+    (λ p. let q = both (m .answer k b .ones) mask o p in one (m .answer k a .ones) mask o (law .refined k a b o h .1 (q .0)) (q .1)),
+  );
   alike = λ i j v o hi hj hv p.
-    let q = known-in mask (m .answer i (vector (m .inputs) v)) o p in
-    known-out mask (m .answer j (vector (m .inputs) v)) o (law .alike i j v o hi hj hv (q .0)) (q .1);
+      let q = known-in mask (m .answer i (vector (m .inputs) v)) o p in
+      known-out mask (m .answer j (vector (m .inputs) v)) o (law .alike i j v o hi hj hv (q .0)) (q .1);
 }

@@ -45,7 +45,7 @@ pub record Lawful (m : Meaning) : Type 0 where
   pub own-inputs : (k : ℕ) (a b : Cube) → Agree (m .inputs) a b → m .answer k a ≡ m .answer k b
   -- where a cube is refined, each known output stays known with its value
   pub refined : (k : ℕ) (a b : Cube) (o : ℕ) → Refines a b →
-    (bit (m .answer k b .zeros) o ≡ 1 → bit (m .answer k a .zeros) o ≡ 1) × (bit (m .answer k b .ones) o ≡ 1 → bit (m .answer k a .ones) o ≡ 1)
+      (bit (m .answer k b .zeros) o ≡ 1 → bit (m .answer k a .zeros) o ≡ 1) × (bit (m .answer k b .ones) o ≡ 1 → bit (m .answer k a .ones) o ≡ 1)
   -- at a vector, all machines have the same outputs unknown
   pub alike : (i j v o : ℕ) → i < m .machines → j < m .machines → v < 2 ^ m .inputs →
-    Known (m .answer i (vector (m .inputs) v)) o → Known (m .answer j (vector (m .inputs) v)) o
+      Known (m .answer i (vector (m .inputs) v)) o → Known (m .answer j (vector (m .inputs) v)) o

@@ -2,8 +2,8 @@
 // against them alone.
 ghost use mathlib.Core.Path.{_≡_};
 ghost use Rattle.devices.specs.Devices.{Meaning, Lawful};
-use cubes::cube::Cube;
 use crate::answer::Answer;
+use cubes::cube::Cube;
 
 pub trait Device {
     // The four things that a device means; each question below is answered from them alone.

@@ -1,9 +1,9 @@
 // A device with some of its outputs out of sight.
 ghost use mathlib.Core.Path.{_≡_};
 ghost use Rattle.devices.specs.Masking.{masked};
-use cubes::cube::Cube;
 use crate::answer::Answer;
 use crate::device::Device;
+use cubes::cube::Cube;
 
 // Any device, with the outputs outside the mask unknown.
 #[derive(Drop)]

@@ -4,10 +4,10 @@ ghost use Prim.Native.Nat.{_<_, _^_};
 ghost use Rattle.cubes.specs.Searching.{First};
 ghost use Rattle.devices.specs.Devices.{told-apart};
 ghost use Rattle.devices.specs.Deciding.{tells};
-use cubes::cube::Cube;
-use cubes::mask::Mask;
 use crate::answer::Answer;
 use crate::device::Device;
+use cubes::cube::Cube;
+use cubes::mask::Mask;
 
 // Whether some output is 0 in one answer and 1 in the other.
 pub fn told_apart(a: Answer, b: Answer) -> bool

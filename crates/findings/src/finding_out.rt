@@ -20,10 +20,18 @@ fn finding<D: Device>(device: &D, machine: u16, label: u16) -> Finding
     ensures { λ r. ⌜ Found (means (now (device .entry))) machine r ⌝ }
 {
     if label == 0 {
-        return Finding { machine, label, shown: None };
+        return Finding {
+            machine,
+            label,
+            shown: None,
+        };
     }
     let shown = smallest_telling(device, 0, machine);
-    Finding { machine, label, shown }
+    Finding {
+        machine,
+        label,
+        shown,
+    }
 }
 
 // What is found out about each machine, from machine 0 up.

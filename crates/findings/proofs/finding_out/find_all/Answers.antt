@@ -26,9 +26,10 @@ loop-machine-again g c =
     let e = c .in-Continue-push .ensures tt .items in
     let n = length-push fs f in
     let here : Found m (length fs) f = subst (λ (k : ℕ). Found m k f) (sym (c .loop-machine .inv .0)) (c .finding .ensures) in
-    let all = pushed (Found m) no-finding fs f (c .loop-machine .inv .1) here in
-    ( ap length e ∙ omega (arith, c .loop-machine .inv .0)
-    , subst (λ (xs : List Finding). (k : ℕ) → k < length xs → Found m k (getD xs k no-finding)) (sym e) all)
+    let all = pushed (Found m) no-finding fs f (c .loop-machine .inv .1) here in (
+      ap length e ∙ omega (arith, c .loop-machine .inv .0),
+      subst (λ (xs : List Finding). (k : ℕ) → k < length xs → Found m k (getD xs k no-finding)) (sym e) all,
+    )
 
 pub returns : need.returns
 returns g c =

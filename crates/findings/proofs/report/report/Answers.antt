@@ -50,9 +50,10 @@ pub returns : need.returns
 returns g c =
     let m = g .D·Device .means (c .args .device .now) in
     let fs = c .as-slice-finding-items .result .now in
-    let all = take-all (c .loop-finding .finding-index) fs (c .loop-finding-test .left) in
-    ( vec-items (c .in-Continue-found .found)
-    , c .in-Continue-found .ensures tt
-    , c .loop-finding .inv
-      ∙ ap (joined (line (c .inputs-inputs .result))) (all ∙ c .as-slice-finding-items .ensures .value)
-      ∙ ap (λ n. joined (line n) (vec-items (c .in-Continue-found .found))) (c .inputs-inputs .ensures))
+    let all = take-all (c .loop-finding .finding-index) fs (c .loop-finding-test .left) in (
+      vec-items (c .in-Continue-found .found),
+      c .in-Continue-found .ensures tt,
+      c .loop-finding .inv
+          ∙ ap (joined (line (c .inputs-inputs .result))) (all ∙ c .as-slice-finding-items .ensures .value)
+          ∙ ap (λ n. joined (line n) (vec-items (c .in-Continue-found .found))) (c .inputs-inputs .ensures),
+    )

@@ -15,7 +15,7 @@ ghost-self c =
     let b = c .args .self .now in
     let fs = vec-items (c .push-reserved .last .self) in
     let s : Sound (card (b .inputs) (wired (vec-items (b .gates))) (vec-items (b .outputs)) fs) =
-        subst (λ (xs : List Fault). Sound (card (b .inputs) (wired (vec-items (b .gates))) (vec-items (b .outputs)) xs)) (sym (c .push-reserved .ensures .items))
-        (fault-more (card-of b) (sound b) (c .args .fault) (c .pre .few) (c .pre .exists)) in
+    subst (λ (xs : List Fault). Sound (card (b .inputs) (wired (vec-items (b .gates))) (vec-items (b .outputs)) xs)) (sym (c .push-reserved .ensures .items))
+    (fault-more (card-of b) (sound b) (c .args .fault) (c .pre .few) (c .pre .exists)) in
     let k = kept (b .inputs) (vec-items (b .gates)) (vec-items (b .outputs)) fs s in
     (k .few-inputs, (k .few-lines, (k .few-outputs, (k .few-faults, (k .pin-counts, (k .earlier, (k .outputs-exist, (k .faults-exist, (b .«gate_room», (b .«output_room», (omega (arith, c .push-reserved .ensures .capacity, b .«fault_room»), tt)))))))))))

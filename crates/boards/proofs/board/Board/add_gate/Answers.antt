@@ -46,13 +46,13 @@ ghost-self c =
     let ws = words (c .args .rest .now) in
     let gs′ = vec-items (c .push-reserved .last .self) in
     let e : wired gs′ ≡ wired (vec-items (b .gates)) ++ (gate-with (c .args .kind) (take (c .args .count) ws) ∷ []) =
-        after (vec-items (b .gates)) gs′ _ (c .args .kind) (c .args .count) ws (c .push-reserved .ensures .items) refl refl (c .pin-lines-lines .ensures) in
+    after (vec-items (b .gates)) gs′ _ (c .args .kind) (c .args .count) ws (c .push-reserved .ensures .items) refl refl (c .pin-lines-lines .ensures) in
     let few = few-pins (c .args .kind) (c .args .count) (c .pre .fits) in
     let six : length ws ≡ 6 = six-lines (c .args .rest .now) (c .pre .twelve) in
     let n : length (take (c .args .count) ws) ≡ c .args .count = let t = length-take (c .args .count) ws in omega (arith, few .1) in
     let s : Sound (card (b .inputs) (wired gs′) (vec-items (b .outputs)) (vec-items (b .faults))) =
-        subst (λ (gs : List Gate). Sound (card (b .inputs) gs (vec-items (b .outputs)) (vec-items (b .faults)))) (sym e)
-        (gate-more (card-of b) (sound b) (gate-with (c .args .kind) (take (c .args .count) ws)) (c .pre .few) (ap (pins-fit (c .args .kind)) n ∙ c .pre .fits) (below-each (lines (card-of b)) (take (c .args .count) ws) (c .pre .earlier))) in
+    subst (λ (gs : List Gate). Sound (card (b .inputs) gs (vec-items (b .outputs)) (vec-items (b .faults)))) (sym e)
+    (gate-more (card-of b) (sound b) (gate-with (c .args .kind) (take (c .args .count) ws)) (c .pre .few) (ap (pins-fit (c .args .kind)) n ∙ c .pre .fits) (below-each (lines (card-of b)) (take (c .args .count) ws) (c .pre .earlier))) in
     let k = kept (b .inputs) gs′ (vec-items (b .outputs)) (vec-items (b .faults)) s in
     (k .few-inputs, (k .few-lines, (k .few-outputs, (k .few-faults, (k .pin-counts, (k .earlier, (k .outputs-exist, (k .faults-exist, (omega (arith, c .push-reserved .ensures .capacity, b .«gate_room»), (b .«output_room», (b .«fault_room», tt)))))))))))
 

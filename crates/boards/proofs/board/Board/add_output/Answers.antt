@@ -15,7 +15,7 @@ ghost-self c =
     let b = c .args .self .now in
     let os = vec-items (c .push-reserved .last .self) in
     let s : Sound (card (b .inputs) (wired (vec-items (b .gates))) os (vec-items (b .faults))) =
-        subst (λ (xs : List ℕ). Sound (card (b .inputs) (wired (vec-items (b .gates))) xs (vec-items (b .faults)))) (sym (c .push-reserved .ensures .items))
-        (output-more (card-of b) (sound b) (c .args .line) (c .pre .few) (c .pre .exists)) in
+    subst (λ (xs : List ℕ). Sound (card (b .inputs) (wired (vec-items (b .gates))) xs (vec-items (b .faults)))) (sym (c .push-reserved .ensures .items))
+    (output-more (card-of b) (sound b) (c .args .line) (c .pre .few) (c .pre .exists)) in
     let k = kept (b .inputs) (vec-items (b .gates)) os (vec-items (b .faults)) s in
     (k .few-inputs, (k .few-lines, (k .few-outputs, (k .few-faults, (k .pin-counts, (k .earlier, (k .outputs-exist, (k .faults-exist, (b .«gate_room», (omega (arith, c .push-reserved .ensures .capacity, b .«output_room»), (b .«fault_room», tt)))))))))))

@@ -39,6 +39,7 @@ loop-o-again c =
     let os = vec-items (b .outputs) in
     let k = c .loop-o .o in
     let in′ : k < length os = omega arith in
-    let e : c .index .result .now ≡ getD os k 0 = getD-read os k _ in′ (c .index .ensures) 0 in
-    ( c .with-bit-zeros .ensures ∙ maskOf-more (λ o. is-zero (output (card-of b) vs o)) _ k _ (c .loop-o .inv .0) (c .zero .ensures ∙ ap (λ j. is-zero (read vs j)) e)
-    , c .with-bit-ones .ensures ∙ maskOf-more (λ o. is-one (output (card-of b) vs o)) _ k _ (c .loop-o .inv .1) (c .one .ensures ∙ ap (λ j. is-one (read vs j)) e))
+    let e : c .index .result .now ≡ getD os k 0 = getD-read os k _ in′ (c .index .ensures) 0 in (
+      c .with-bit-zeros .ensures ∙ maskOf-more (λ o. is-zero (output (card-of b) vs o)) _ k _ (c .loop-o .inv .0) (c .zero .ensures ∙ ap (λ j. is-zero (read vs j)) e),
+      c .with-bit-ones .ensures ∙ maskOf-more (λ o. is-one (output (card-of b) vs o)) _ k _ (c .loop-o .inv .1) (c .one .ensures ∙ ap (λ j. is-one (read vs j)) e),
+    )

@@ -26,9 +26,10 @@ loop-k-again c =
     let k = c .loop-k .k in
     let ws = values (card-of b) f x k in
     let here : c .held-value .result ≡ held f k _ =
-        c .held-value .ensures ∙ ap (held f k) (c .own-value-free .ensures ∙ itself-related Equal equal-kept (card-of b) (sound b) x x (read vs) (read ws) k (omega arith) (λ _. refl) (λ j _. c .loop-k .inv .1 j)) in
-    ( length-set vs k (c .held-value .result) ∙ c .loop-k .inv .0
-    , rw (here, add-one k) (place-more Unknown vs ws k _ (omega (arith, c .loop-k .inv .0, sound b .few-lines)) (length-values (card-of b) f x k) (c .loop-k .inv .1)))
+    c .held-value .ensures ∙ ap (held f k) (c .own-value-free .ensures ∙ itself-related Equal equal-kept (card-of b) (sound b) x x (read vs) (read ws) k (omega arith) (λ _. refl) (λ j _. c .loop-k .inv .1 j)) in (
+      length-set vs k (c .held-value .result) ∙ c .loop-k .inv .0,
+      rw (here, add-one k) (place-more Unknown vs ws k _ (omega (arith, c .loop-k .inv .0, sound b .few-lines)) (length-values (card-of b) f x k) (c .loop-k .inv .1)),
+    )
 
 pub returns : need.returns
 returns c =

@@ -38,7 +38,7 @@ module _ (t : List ℕ) (n r : ℕ) where
       omega arith
 
   written : (blank end : ℕ) → blank ≡ 8 + length (decimal n) → end ≡ blank + 1 + length (decimal r) →
-    set (placed (set (placed (placed t 0 (codes "refused ")) 8 (decimal n)) blank 32) (blank + 1) (decimal r)) end 10 ≡ placed t 0 line
+      set (placed (set (placed (placed t 0 (codes "refused ")) 8 (decimal n)) blank 32) (blank + 1) (decimal r)) end 10 ≡ placed t 0 line
   written blank end p q =
       let l = front-length in
       let l2 = length-append front (32 ∷ []) in
@@ -90,15 +90,16 @@ returns c =
     let a = measured _ _ _ (c .decimal-length-blank .ensures) (c .number-number .ensures) in
     let b = measured _ _ _ (c .decimal-length .ensures) (c .record-named .ensures) in
     let l : length (refused-line u) ≡ 8 + length (decimal (number u)) + 1 + length (decimal (named u)) + 1 = line-length t (number u) (named u) in
-    let fits : length (refused-line u) ≤ length t = omega (arith, c .if-text-end .left) in
-    ( omega arith
-    , fits
-    , c .put-2 .ensures
-      ∙ ap (λ x. set x end 10) (c .put-decimal-2 .ensures
-      ∙ ap (λ x. placed x (blank + 1) (decimal r)) (c .put .ensures
-      ∙ ap (λ x. set x blank 32) (c .put-decimal .ensures
-      ∙ ap (λ x. placed x 8 (decimal n)) (c .put-all .ensures))))
-      ∙ written t n r blank end (ap (λ k. 8 + k) (c .decimal-length-blank .ensures)) (ap (λ k. blank + 1 + k) (c .decimal-length .ensures))
-      ∙ ap (λ m. placed t 0 (line t m r)) (c .number-number .ensures)
-      ∙ ap (λ m. placed t 0 (line t (number u) m)) (c .record-named .ensures)
-      ∙ placed-start t (refused-line u) fits)
+    let fits : length (refused-line u) ≤ length t = omega (arith, c .if-text-end .left) in (
+      omega arith,
+      fits,
+      c .put-2 .ensures
+          ∙ ap (λ x. set x end 10) (c .put-decimal-2 .ensures
+          ∙ ap (λ x. placed x (blank + 1) (decimal r)) (c .put .ensures
+          ∙ ap (λ x. set x blank 32) (c .put-decimal .ensures
+          ∙ ap (λ x. placed x 8 (decimal n)) (c .put-all .ensures))))
+          ∙ written t n r blank end (ap (λ k. 8 + k) (c .decimal-length-blank .ensures)) (ap (λ k. blank + 1 + k) (c .decimal-length .ensures))
+          ∙ ap (λ m. placed t 0 (line t m r)) (c .number-number .ensures)
+          ∙ ap (λ m. placed t 0 (line t (number u) m)) (c .record-named .ensures)
+          ∙ placed-start t (refused-line u) fits,
+    )

@@ -1,0 +1,14 @@
+pub mod Standing
+pub mod Outcomes
+pub mod Handing
+pub mod Joins
+pub mod Rewriting
+pub mod Losses
+pub mod Coverage
+pub mod Stays
+pub mod Spares
+pub mod Keeps
+pub mod Whole
+pub mod Lines
+pub mod Tallies
+pub mod TallySweep

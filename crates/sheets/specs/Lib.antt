@@ -1,0 +1,11 @@
+pub mod Sheets
+pub mod Places
+pub mod Entering
+pub mod Covering
+pub mod Pulling
+pub mod Striking
+pub mod Exchanging
+pub mod Joining
+pub mod Sweeping
+pub mod Listing
+pub mod Running
