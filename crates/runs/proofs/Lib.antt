@@ -1,0 +1,5 @@
+pub mod Slips
+pub mod Outs
+pub mod Readiness
+pub mod Backs
+pub mod Finishing
