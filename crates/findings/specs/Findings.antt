@@ -38,7 +38,7 @@ abbrev pub shown-as : ℕ → Option ℕ → List ℕ
 shown-as n None = codes "-"
 shown-as n (Some v) = letters n (vector n v)
 
--- the line of a machine: number, label and letters in decimal, parted by blanks, and a line feed
+-- the line of a machine: number and label in decimal, then the letters, parted by blanks, and a line feed
 abbrev pub line : ℕ → Finding → List ℕ
 line n f = decimal (f .machine) ++ (32 ∷ (decimal (f .label) ++ (32 ∷ (shown-as n (f .shown) ++ (10 ∷ [])))))
 

@@ -10,10 +10,10 @@ use Rattle.std.specs.declared.option.Option.{Option}
 use Rattle.std.specs.declared.option.Option.the-variants.{Some, None}
 use Rattle.cubes.specs.declared.cube.Cube.{Cube}
 use Rattle.devices.specs.Devices as device
-use Rattle.devices.specs.Devices.{told-apart}
+use Rattle.devices.specs.Devices.{told-apart, unknown}
 use Rattle.devices.specs.declared.answer.Answer.{Answer}
 use Rattle.devices.proofs.Filling.{filled}
-use Rattle.goals.specs.Distinguishing.{pairs, faulty-pairs, tells-pair, tells-by, silent, Answered}
+use Rattle.goals.specs.Distinguishing.{pairs, faulty-pairs, tells-pair, tells-by, Answered}
 use Rattle.goals.proofs.Pairs.{left-from, left-along, left-down, left-none, at-cons, at-nil}
 use Rattle.goals.proofs.Orders.{each}
 
@@ -31,11 +31,11 @@ module _ (n : ℕ) (answers : List Answer) (d i j : ℕ) (marks : List Bool) (w 
   here : i < n + 1 → (nth (pairs 1 n) d ≡ Some (i, j)) × (drop (d + 1) (pairs 1 n) ≡ left-from (n + 1) i (j + 1))
   here a = at-cons (pairs 1 n) d (i, j) (left-from (n + 1) i (j + 1)) (w .3 ∙ left-along (n + 1) i j (w .2 a))
 
-  pub along : (b : Bool) → b ≡ told-apart (getD answers i silent) (getD answers j silent) → i < n + 1 → j < n + 1 → Walk n answers (d + 1) i (j + 1) (set marks d b)
+  pub along : (b : Bool) → b ≡ told-apart (getD answers i unknown) (getD answers j unknown) → i < n + 1 → j < n + 1 → Walk n answers (d + 1) i (j + 1) (set marks d b)
   along b e a h = let q = here a in let z = w .1 in
       (w .0, omega arith, (λ _. omega arith), q .1, marked b (e ∙ sym (ap (tells-by answers) (q .0))))
 
-  pub down : (b : Bool) → b ≡ told-apart (getD answers i silent) (getD answers j silent) → i < n + 1 → n + 1 ≤ j → Walk n answers (d + 1) (i + 1) (i + 1 + 1) (set marks d b)
+  pub down : (b : Bool) → b ≡ told-apart (getD answers i unknown) (getD answers j unknown) → i < n + 1 → n + 1 ≤ j → Walk n answers (d + 1) (i + 1) (i + 1 + 1) (set marks d b)
   down b e a h = let q = here a in let y = w .2 a in let s : j + 1 ≡ n + 1 + 1 = omega arith in
       (omega arith, omega arith, (λ f. omega arith), q .1 ∙ ap (λ k. left-from (n + 1) i k) s ∙ left-down (n + 1) i a, marked b (e ∙ sym (ap (tells-by answers) (q .0))))
 
@@ -55,4 +55,4 @@ by-answers m c answers a some d = step (nth (faulty-pairs m) d) refl
     step None e = refl
     step (Some x) e =
         let q = each (m .machines - 2) 1 d x e in
-        ap (λ r. told-apart r (getD answers (x .1) silent)) (a .each (x .0) silent (omega (arith, q .0, q .1, q .2))) ∙ ap (λ r. told-apart (m .answer (x .0) c) r) (a .each (x .1) silent (omega (arith, q .0, q .1, q .2)))
+        ap (λ r. told-apart r (getD answers (x .1) unknown)) (a .each (x .0) unknown (omega (arith, q .0, q .1, q .2))) ∙ ap (λ r. told-apart (m .answer (x .0) c) r) (a .each (x .1) unknown (omega (arith, q .0, q .1, q .2)))

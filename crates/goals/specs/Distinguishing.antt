@@ -11,7 +11,7 @@ use Rattle.std.specs.declared.option.Option.{Option}
 use Rattle.std.specs.declared.option.Option.the-variants.{Some, None}
 use Rattle.cubes.specs.declared.cube.Cube.{Cube}
 use Rattle.devices.specs.Devices as device
-use Rattle.devices.specs.Devices.{told-apart}
+use Rattle.devices.specs.Devices.{told-apart, unknown}
 use Rattle.devices.specs.declared.answer.Answer.{Answer}
 use Rattle.goals.specs.Goals.{Meaning}
 
@@ -42,12 +42,9 @@ distinction m = record {
 }
 
 -- what the answers in a list tell of a pair
-abbrev pub silent : Answer
-silent = record { zeros = 0; ones = 0 }
-
 abbrev pub tells-by : List Answer → Option (ℕ × ℕ) → Bool
 tells-by answers None = false
-tells-by answers (Some x) = told-apart (getD answers (x .0) silent) (getD answers (x .1) silent)
+tells-by answers (Some x) = told-apart (getD answers (x .0) unknown) (getD answers (x .1) unknown)
 
 -- the list begins with the answers of all machines
 pub record Answered (m : device.Meaning) (c : Cube) (answers : List Answer) : Type 0 where
