@@ -1,4 +1,6 @@
 // Boards: cards of gates read from a file, simulated with at most one line stuck. A board is a device.
+#![tactic(auto)]
+
 pub mod answers;
 pub mod board;
 pub mod gate;

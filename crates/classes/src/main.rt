@@ -1,6 +1,8 @@
 // Program `classes`: reads a board file from standard input and prints, for each machine, its number, its label
 // (the smallest machine that no vector tells from it) and the letters of the smallest vector that tells it from
 // the good card, or `-` where none does. For a refused board it prints the line that says so.
+#![tactic(auto)]
+
 use boards::board::Board;
 use console::input::read_input;
 use console::saying::say_refused;

@@ -1,4 +1,6 @@
 // Cubes: what is known of each input of a card, as two masks. The lowest layer: all others speak of cubes.
+#![tactic(auto)]
+
 pub mod block;
 pub mod comparing;
 pub mod cube;

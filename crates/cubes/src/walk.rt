@@ -93,7 +93,7 @@ pub fn block(inputs: u8, number: u32) -> Block
 
 // The smallest vector that passes. It stops at the first block that has one.
 pub fn smallest<Q: Question>(question: &Q) -> Option<Mask>
-    ensures { First (2 ^ (asks question.now).inputs) (asks question.now).passes result }
+    ensures { First (2 ^ (Q.asks question.now).inputs) (Q.asks question.now).passes result }
 {
     let inputs = question.inputs();
     for number in 0..blocks(inputs) {

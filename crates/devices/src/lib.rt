@@ -1,4 +1,6 @@
 // Devices: cards with a good machine and faulty ones, known by what each machine answers.
+#![tactic(auto)]
+
 pub mod answer;
 pub mod decide;
 pub mod device;

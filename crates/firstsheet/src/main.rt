@@ -1,5 +1,7 @@
 // Program firstsheet: reads a board file from standard input, covers each duty of detection in order, sweeps, and prints
 // the listing: the serial and the letters of each row in place. For a refused board it prints the line that says so.
+#![tactic(auto)]
+
 use boards::board::Board;
 use console::input::read_input;
 use console::saying::{say_listing, say_refused};

@@ -1,5 +1,7 @@
 // Worked examples for goals, claims, sheets and runs together, over boards of a few gates. All expected values were
 // found by hand from docs/RULES.md.
+#![tactic(auto)]
+
 #[cfg(test)]
 mod answers;
 #[cfg(test)]

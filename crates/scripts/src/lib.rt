@@ -1,4 +1,6 @@
 // Scripts: calls of a sheet written one to a line, and the lines that say what each call answered.
+#![tactic(auto)]
+
 pub mod claiming;
 pub mod cubing;
 pub mod kind;

@@ -1,5 +1,7 @@
 // The test sheet: rows that cover the duties of a goal, and the calls that change them. None of the calls can leave a
 // wanted duty bare that was covered before.
+#![tactic(auto)]
+
 pub mod asking;
 pub mod call;
 pub mod covering;

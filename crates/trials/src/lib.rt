@@ -1,5 +1,7 @@
 // Worked examples for the libraries together, from the bytes of a board file to what is found out about its
 // machines. All expected values were found by hand or by boards/reference.py.
+#![tactic(auto)]
+
 #[cfg(test)]
 mod and_gate;
 #[cfg(test)]

@@ -1,6 +1,8 @@
 // Program workbench: `workbench BOARD detect|tell|both` reads a board file by name and a script from standard input,
 // makes the script's calls on a sheet over detection, distinction or the two joined, and prints what each answered and
 // then the listing. For a refused board, and for a script that is not understood, it prints the line that says so.
+#![tactic(auto)]
+
 mod bench;
 
 use anyhow::anyhow;

@@ -22,5 +22,5 @@ returns-in-4 c = subst (λ (i : ℕ). Marks (λ k. has (64 * c.args.block + k) i
 pub returns-in-5 : goal.returns-in-5
 returns-in-5 c = subst (λ (i : ℕ). Marks (λ k. has (64 * c.args.block + k) i) 0xFFFF_FFFF_0000_0000) (sym c.in-5.is) (low_pattern 0xFFFF_FFFF_0000_0000 5 c.args.block (omega arith) refl)
 
-pub returns-in-default : goal.returns-in-default
-returns-in-default c k h = c.spread.ensures k h ∙ high_pattern c.args.block k c.args.input h (omega arith)
+pub returns-in_default : goal.returns-in_default
+returns-in_default c k h = c.spread.ensures k h ∙ high_pattern c.args.block k c.args.input h (omega arith)

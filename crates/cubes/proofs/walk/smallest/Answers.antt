@@ -19,7 +19,7 @@ returns-then-passing-ne0 g c =
     let s = g.Q.Question.asks c.args.question.now in
     let b = c.loop-number.number in
     let word = bit_and c.passing.result c.block-block.result.present in
-    (first_found s.passes (2 ^ s.inputs) b word (omega (arith, c.if-passing-ne0.true)) (and_lt 64 _ _ c.passing.type-inv (omega arith)) c.loop-number.invariant
+    (first_found s.passes (2 ^ s.inputs) b word (omega (arith, c.if-passing-ne0.true)) (and_lt 64 _ _ c.passing.type_inv (omega arith)) c.loop-number.invariant
     (word_says s c.inputs-inputs.result b c.block-block.result c.passing.result c.inputs-inputs.ensures.value c.inputs-inputs.ensures.few c.block-block.ensures c.passing.ensures)).1
 
 pub loop-number-preserved : goal.loop-number-preserved

@@ -12,4 +12,4 @@ numbered n words k v (Some c) few h e is = (few, h, is.1 ∙ ap (vector n) e)
 numbered n words k v None few h e is = λ _. is (few, let l = mask_of_lt (λ i. has (get_or words i 0) k) n in omega arith)
 
 pub returns : goal.returns
-returns c = numbered c.args.inputs c.args.words.now c.args.k c.number-at.result c.vector.result (omega arith) (omega arith) c.number-at.ensures c.vector.ensures
+returns c = numbered c.args.inputs c.args.words.now c.args.k c.number_at.result c.vector.result (omega arith) (omega arith) c.number_at.ensures c.vector.ensures

@@ -32,7 +32,7 @@ returns t c =
       | else-n-lt10 w ↦
           let n = c.args.n in
           let large = w.if-n-lt10.false in
-          let front = w.put-digits-place.ensures in
+          let front = w.put_digits-place.ensures in
           let small : n < 2 ^ 64 = omega arith in
           record {
             written = simp (c.put.ensures, w.text-is, w.place-is, front.written, front.after) (more c.args.text.now c.args.at n large small (omega arith));

@@ -4,8 +4,8 @@ use Rattle.std.proofs.lemmas.Fmt.{decimal_digit}
 use Rattle.texts.proofs.Placing.{decimal_length_le, decimal_length_more}
 use Rattle.texts.proofs.decimal.decimal_length.Goals as goal
 
-pub overflow-add-digits : goal.overflow-add-digits
-overflow-add-digits c = omega (arith, decimal_length_le c.args.n (omega arith))
+pub overflow_add-digits : goal.overflow_add-digits
+overflow_add-digits c = omega (arith, decimal_length_le c.args.n (omega arith))
 
 pub loop-rest-preserved : goal.loop-rest-preserved
 loop-rest-preserved c = (omega (arith, decimal_length_more c.loop-rest.rest (omega arith) (omega arith)), omega arith)

@@ -13,7 +13,7 @@ loop-byte-preserved c =
     let i = c.loop-byte.byte-index in
     let left = at_drop_more (placed text place) bytes i 0 c.loop-byte-test.true in
     let short : length text < 2 ^ 64 = omega arith in
-    simp (c.put.ensures, c.saturating-add-place.ensures) (placed_next text place _ (drop (i + 1) bytes) short ∙ sym left ∙ c.loop-byte.invariant)
+    simp (c.put.ensures, c.saturating_add-place.ensures) (placed_next text place _ (drop (i + 1) bytes) short ∙ sym left ∙ c.loop-byte.invariant)
 
 pub returns : goal.returns
 returns c = rw (drop_all _ _ c.loop-byte-test.false) at c.loop-byte.invariant

@@ -9,11 +9,11 @@ use Rattle.cubes.proofs.cube.Cube.letter.Goals as goal
 past : (m m' i : ℕ) → m ≡ m' → m < 2 ^ 16 → 16 ≤ i → bit m' i ≡ 1 → ⊥
 past m m' i e h l b = let z = bit_above m' 16 i (omega arith) l in omega arith
 
-pub returns-then-input-ge-MOST-INPUTS : goal.returns-then-input-ge-MOST-INPUTS
-returns-then-input-ge-MOST-INPUTS c =
+pub returns-then-input-ge-MOST_INPUTS : goal.returns-then-input-ge-MOST_INPUTS
+returns-then-input-ge-MOST_INPUTS c =
     letter_unknown c.args.self.now c.args.input
-    (past c.zeros-zeros.result _ _ c.zeros-zeros.ensures c.zeros-zeros.type-inv c.if-input-ge-MOST-INPUTS.true)
-    (past c.ones-ones.result _ _ c.ones-ones.ensures c.ones-ones.type-inv c.if-input-ge-MOST-INPUTS.true)
+    (past c.zeros-zeros.result _ _ c.zeros-zeros.ensures c.zeros-zeros.type_inv c.if-input-ge-MOST_INPUTS.true)
+    (past c.ones-ones.result _ _ c.ones-ones.ensures c.ones-ones.type_inv c.if-input-ge-MOST_INPUTS.true)
 
 read : (m m' i : ℕ) → m ≡ m' → bit_and (m / 2 ^ i) 1 ≡ bit m' i
 read m m' i e = low_bit m i ∙ ap (λ x. bit x i) e

@@ -9,8 +9,8 @@ loop-input-preserved c =
     let x = c.args.self.now in
     let i = c.loop-input.input in
     let small : c.letter.result < 128 = omega (arith, letter_ascii x i, c.letter.ensures) in
-    let one = c.in-ok-push.ensures.ascii small in
-    let e = c.in-ok-push.ensures.bytes in
+    let one = c.in_ok-push.ensures.ascii small in
+    let e = c.in_ok-push.ensures.bytes in
     e ∙ ap (λ bs. string_bytes c.loop-input.text ++ bs) one
     ∙ ap (λ bs. bs ++ (c.letter.result ∷ [])) c.loop-input.invariant
     ∙ ap (λ b. letters i x ++ (b ∷ [])) c.letter.ensures

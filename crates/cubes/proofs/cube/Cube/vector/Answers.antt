@@ -4,13 +4,13 @@ use Rattle.cubes.specs.Cubes.{rest_apart}
 use Rattle.cubes.proofs.Alike.{is_vector}
 use Rattle.cubes.proofs.cube.Cube.vector.Goals as goal
 
-pub invariant-of-result : goal.invariant-of-result
-invariant-of-result c =
+pub invariant_of-result : goal.invariant_of-result
+invariant_of-result c =
     let n = c.args.inputs in
     let e : (1 * 2 ^ n) % 2 ^ 32 ≡ 2 ^ n = one_shl n 32 (omega arith) in
     let p = pow_pos n in
     let h : c.args.number < 2 ^ n = omega arith in
-    simp e (rest_apart n c.args.number h, tt)
+    simp e (record { apart = rest_apart n c.args.number h })
 
 pub returns : goal.returns
 returns c =
