@@ -32,8 +32,8 @@ impl ClaimRefusal {
 
 // Accepted with the length of the list, or refused with the first bad place of the first test that finds one.
 pub fn claim<G: Goal>(goal: &G, duties: &[u32]) -> Result<u16, ClaimRefusal>
-    ensures answer { result ≡ verdict (means goal.now) duties.now }
-    ensures bound { Bound (means goal.now) duties.now result }
+    ensures answer { result ≡ verdict (G.means goal.now) duties.now }
+    ensures bound { Bound (G.means goal.now) duties.now result }
 {
     if duties.len() > MOST {
         return Err(ClaimRefusal::TooMany);

@@ -8,7 +8,7 @@ use goals::goal::Goal;
 // The first duty that there is none of.
 pub(crate) fn first_no_such<G: Goal>(goal: &G, duties: &[u32]) -> Option<u16>
     requires { length duties.now ≤ 256 }
-    ensures { result ≡ first_bad duties.now (no_such (means goal.now) duties.now) }
+    ensures { result ≡ first_bad duties.now (no_such (G.means goal.now) duties.now) }
 {
     let count = goal.duties();
     for p in 0..duties.len() {
@@ -48,7 +48,7 @@ pub(crate) fn first_named_before(duties: &[u32]) -> Option<u16>
 // The first duty that is not wanted.
 pub(crate) fn first_unwanted<G: Goal>(goal: &G, duties: &[u32]) -> Option<u16>
     requires { length duties.now ≤ 256 }
-    ensures { result ≡ first_bad duties.now (unwanted (means goal.now) duties.now) }
+    ensures { result ≡ first_bad duties.now (unwanted (G.means goal.now) duties.now) }
 {
     for p in 0..duties.len() {
         if !goal.wanted(duties[p]) {
@@ -61,7 +61,7 @@ pub(crate) fn first_unwanted<G: Goal>(goal: &G, duties: &[u32]) -> Option<u16>
 // The first duty that no vector covers.
 pub(crate) fn first_uncoverable<G: Goal>(goal: &G, duties: &[u32]) -> Option<u16>
     requires { length duties.now ≤ 256 }
-    ensures { result ≡ first_bad duties.now (uncoverable (means goal.now) duties.now) }
+    ensures { result ≡ first_bad duties.now (uncoverable (G.means goal.now) duties.now) }
 {
     for p in 0..duties.len() {
         if smallest_covering(goal, duties[p]).is_none() {

@@ -10,7 +10,7 @@ use goals::goal::Goal;
 
 // The first place at or after `from` whose duty the cube covers.
 fn next_covered<G: Goal>(goal: &G, cube: Cube, duties: &[u32], from: usize) -> Option<usize>
-    ensures { MatchOption result ((k : ℕ) → from ≤ k → k < length duties.now → (means goal.now).covers cube (duty_at duties.now k) ≡ false) (λ i. (from ≤ i) × (i < length duties.now) × ((means goal.now).covers cube (duty_at duties.now i) ≡ true) × ((k : ℕ) → from ≤ k → k < i → (means goal.now).covers cube (duty_at duties.now k) ≡ false)) }
+    ensures { MatchOption result ((k : ℕ) → from ≤ k → k < length duties.now → (G.means goal.now).covers cube (duty_at duties.now k) ≡ false) (λ i. (from ≤ i) × (i < length duties.now) × ((G.means goal.now).covers cube (duty_at duties.now i) ≡ true) × ((k : ℕ) → from ≤ k → k < i → (G.means goal.now).covers cube (duty_at duties.now k) ≡ false)) }
 {
     for place in from..duties.len() {
         if goal.covers(cube, duties[place]) {
@@ -23,7 +23,7 @@ fn next_covered<G: Goal>(goal: &G, cube: Cube, duties: &[u32], from: usize) -> O
 // The first two places whose duties the cube covers.
 fn first_two<G: Goal>(goal: &G, cube: Cube, duties: &[u32]) -> Option<Pair>
     requires { length duties.now ≤ 256 }
-    ensures { Earliest (length duties.now) (λ q p. ((means goal.now).covers cube (duty_at duties.now q) ≡ true) × ((means goal.now).covers cube (duty_at duties.now p) ≡ true)) result }
+    ensures { Earliest (length duties.now) (λ q p. ((G.means goal.now).covers cube (duty_at duties.now q) ≡ true) × ((G.means goal.now).covers cube (duty_at duties.now p) ≡ true)) result }
 {
     match next_covered(goal, cube, duties, 0) {
         Some(earlier) => match next_covered(goal, cube, duties, earlier + 1) {
@@ -40,8 +40,8 @@ fn first_two<G: Goal>(goal: &G, cube: Cube, duties: &[u32]) -> Option<Pair>
 // The first two places whose duties the vector with this number covers.
 fn two_at<G: Goal>(goal: &G, duties: &[u32], number: Mask) -> Option<Pair>
     requires few { length duties.now ≤ 256 }
-    requires vector { number < vectors (means goal.now) }
-    ensures { Earliest (length duties.now) (λ q p. (covered_at (means goal.now) (duty_at duties.now q) number ≡ true) × (covered_at (means goal.now) (duty_at duties.now p) number ≡ true)) result }
+    requires vector { number < vectors (G.means goal.now) }
+    ensures { Earliest (length duties.now) (λ q p. (covered_at (G.means goal.now) (duty_at duties.now q) number ≡ true) × (covered_at (G.means goal.now) (duty_at duties.now p) number ≡ true)) result }
 {
     match Cube::vector(goal.inputs(), number) {
         Some(cube) => first_two(goal, cube, duties),
@@ -72,7 +72,7 @@ fn the_sooner(a: Option<Pair>, b: Option<Pair>) -> Option<Pair>
 // The earliest later place of which a vector covers a place before, and the earliest such place. One pass.
 pub(crate) fn first_clash<G: Goal>(goal: &G, duties: &[u32]) -> Option<Pair>
     requires { length duties.now ≤ 256 }
-    ensures { result ≡ clash (means goal.now) duties.now }
+    ensures { result ≡ clash (G.means goal.now) duties.now }
 {
     let mut best = None;
     for number in 0..1u32 << goal.inputs() {

@@ -20,7 +20,7 @@ impl Refusal {
 
 // Equivalent, or the smallest vector that tells the machines apart.
 pub fn decide<D: Device>(device: &D, i: u16, j: u16) -> Result<Verdict, Refusal>
-    ensures { Decided (means device.now) i j result }
+    ensures { Decided (D.means device.now) i j result }
 {
     let machines = device.machines();
     if i >= machines {

@@ -9,7 +9,7 @@ use crate::verdict::Refusal;
 
 // Whether no vector tells the machines apart.
 fn equivalent<D: Device>(device: &D, i: u16, j: u16) -> bool
-    ensures { Decides result (EquivalentMachines (means device.now) i j) }
+    ensures { Decides result (EquivalentMachines (D.means device.now) i j) }
 {
     match smallest_telling(device, i, j) {
         None => true,
@@ -20,10 +20,10 @@ fn equivalent<D: Device>(device: &D, i: u16, j: u16) -> bool
 // The label of machine k, where the list has those of the machines before it. Only a machine that is its own
 // label is compared: each earlier machine is equivalent to one of these.
 fn label_of<D: Device>(device: &D, k: u16, list: &[u16]) -> u16
-    requires exists { k < (means device.now).machines }
+    requires exists { k < (D.means device.now).machines }
     requires room { k ≤ length list.now }
-    requires earlier { (j : ℕ) → j < k → Label (means device.now) j (slice_index list.now j) }
-    ensures { Label (means device.now) k result }
+    requires earlier { (j : ℕ) → j < k → Label (D.means device.now) j (slice_index list.now j) }
+    ensures { Label (D.means device.now) k result }
 {
     for j in 0..k {
         if list[j as usize] == j {
@@ -37,7 +37,7 @@ fn label_of<D: Device>(device: &D, k: u16, list: &[u16]) -> u16
 
 // Writes the label of each machine from the start of the list; entries beyond stay.
 pub fn labels<D: Device>(device: &D, list: &mut [u16]) -> Result<(), Refusal>
-    ensures { Labelled (means device.now) list.old list.new result }
+    ensures { Labelled (D.means device.now) list.old list.new result }
 {
     let machines = device.machines();
     if list.len() < machines as usize {

@@ -21,7 +21,7 @@ pub fn told_apart(a: Answer, b: Answer) -> bool
 
 // Those of the 64 vectors that tell the machines apart.
 pub fn telling<D: Device>(device: &D, i: u16, j: u16, words: &InputWords) -> u64
-    ensures { Marks (λ k. tells (means device.now) i j (number_at (means device.now).inputs words.now k)) result }
+    ensures { Marks (λ k. tells (D.means device.now) i j (number_at (D.means device.now).inputs words.now k)) result }
 {
     crossing(&device.answers(i, words), &device.answers(j, words))
 }
@@ -48,8 +48,8 @@ impl<'a, D: Device> Question for Pair<'a, D> {
 
 // Whether the vector with this number tells the machines apart.
 fn tells<D: Device>(device: &D, i: u16, j: u16, number: Mask) -> bool
-    requires { number < 2 ^ (means device.now).inputs }
-    ensures { result ≡ tells (means device.now) i j number }
+    requires { number < 2 ^ (D.means device.now).inputs }
+    ensures { result ≡ tells (D.means device.now) i j number }
 {
     let Some(cube) = Cube::vector(device.inputs(), number) else {
         return false;
@@ -59,7 +59,7 @@ fn tells<D: Device>(device: &D, i: u16, j: u16, number: Mask) -> bool
 
 // The smallest vector that tells the machines apart. It stops at the first one.
 pub fn smallest_telling<D: Device>(device: &D, i: u16, j: u16) -> Option<Mask>
-    ensures { First (2 ^ (means device.now).inputs) (tells (means device.now) i j) result }
+    ensures { First (2 ^ (D.means device.now).inputs) (tells (D.means device.now) i j) result }
 {
     for number in 0..1u32 << device.inputs() {
         let number = number as Mask;
@@ -72,7 +72,7 @@ pub fn smallest_telling<D: Device>(device: &D, i: u16, j: u16) -> Option<Mask>
 
 // The same smallest vector, found by the walk through 64 vectors at a time.
 pub fn smallest_telling_by_words<D: Device>(device: &D, i: u16, j: u16) -> Option<Mask>
-    ensures { First (2 ^ (means device.now).inputs) (tells (means device.now) i j) result }
+    ensures { First (2 ^ (D.means device.now).inputs) (tells (D.means device.now) i j) result }
 {
     smallest(&Pair { device, i, j })
 }

@@ -12,9 +12,9 @@ use std::alloc::{AllocError, Global};
 // What is found out about a machine whose label is known. A machine that is equivalent to the good card is told
 // from it by no vector, so nothing is searched for it.
 fn finding<D: Device>(device: &D, machine: u16, label: u16) -> Finding
-    requires exists { machine < (means device.now).machines }
-    requires labelled { Label (means device.now) machine label }
-    ensures { Found (means device.now) machine result }
+    requires exists { machine < (D.means device.now).machines }
+    requires labelled { Label (D.means device.now) machine label }
+    ensures { Found (D.means device.now) machine result }
 {
     if label == 0 {
         return Finding {
@@ -33,7 +33,7 @@ fn finding<D: Device>(device: &D, machine: u16, label: u16) -> Finding
 
 // What is found out about each machine, from machine 0 up.
 pub fn find_all<D: Device>(heap: Global, device: &D) -> Result<Vec<Finding>, AllocError>
-    ensures { IfOk result (λ found. FoundAll (means device.now) found.items) }
+    ensures { IfOk result (λ found. FoundAll (D.means device.now) found.items) }
 {
     let mut list = [0u16; 256];
     let mut found = Vec::new(heap);

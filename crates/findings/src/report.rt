@@ -36,7 +36,7 @@ fn line(heap: Global, inputs: u8, finding: Finding) -> Result<String, AllocError
 
 // The lines of all machines, from machine 0 up.
 pub fn report<D: Device>(heap: Global, device: &D) -> Result<String, AllocError>
-    ensures { IfOk result (λ text. Report (means device.now) (string_bytes text)) }
+    ensures { IfOk result (λ text. Report (D.means device.now) (string_bytes text)) }
 {
     let found = find_all(heap, device)?;
     let inputs = device.inputs();

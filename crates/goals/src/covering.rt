@@ -9,8 +9,8 @@ use cubes::mask::Mask;
 
 // Whether the vector with this number covers the duty.
 pub(crate) fn covered_at<G: Goal>(goal: &G, duty: u32, number: Mask) -> bool
-    requires { number < vectors (means goal.now) }
-    ensures { result ≡ covered_at (means goal.now) duty number }
+    requires { number < vectors (G.means goal.now) }
+    ensures { result ≡ covered_at (G.means goal.now) duty number }
 {
     match Cube::vector(goal.inputs(), number) {
         Some(cube) => goal.covers(cube, duty),
@@ -20,7 +20,7 @@ pub(crate) fn covered_at<G: Goal>(goal: &G, duty: u32, number: Mask) -> bool
 
 // The smallest vector that covers the duty, if one does. It stops at the first one.
 pub fn smallest_covering<G: Goal>(goal: &G, duty: u32) -> Option<Mask>
-    ensures { First (vectors (means goal.now)) (covered_at (means goal.now) duty) result }
+    ensures { First (vectors (G.means goal.now)) (covered_at (G.means goal.now) duty) result }
 {
     for number in 0..1u32 << goal.inputs() {
         let number = number as Mask;

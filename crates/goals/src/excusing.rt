@@ -47,7 +47,7 @@ impl<G: Goal> Excused<G> {
 
     // Makes a duty no longer wanted; excusing one twice is accepted.
     pub fn excuse(&mut self, duty: u32) -> Result<(), NotExcused>
-        ensures answer { Excuses (means self.old.goal) self.old.duties.items duty self.new.duties.items result }
+        ensures answer { Excuses (G.means self.old.goal) self.old.duties.items duty self.new.duties.items result }
         ensures same { self.new.goal ≡ self.old.goal }
     {
         if duty >= self.goal.duties() {

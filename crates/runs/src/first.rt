@@ -24,7 +24,7 @@ fn calls_for(heap: Global, duties: u32) -> Result<Vec<Call>, AllocError>
 // Covers each duty of the goal in order, passing over those that are refused, and sweeps.
 pub fn first_sheet<G: Goal + Drop>(heap: Global, goal: G) -> Result<Finished<G>, AllocError>
     ensures same { IfOk result (λ f. f.sheet.goal ≡ goal) }
-    ensures promise { IfOk result (λ f. Promise (means goal) (first_calls (means goal).duties) [] f.answers.items (state f.sheet) f.verdict) }
+    ensures promise { IfOk result (λ f. Promise (G.means goal) (first_calls (G.means goal).duties) [] f.answers.items (state f.sheet) f.verdict) }
 {
     let calls = calls_for(heap, goal.duties())?;
     run(heap, goal, calls.as_slice(), &[])

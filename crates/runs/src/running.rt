@@ -20,7 +20,7 @@ pub fn run<G: Goal + Drop>(
     claimed: &[u32],
 ) -> Result<Finished<G>, AllocError>
     ensures same { IfOk result (λ f. f.sheet.goal ≡ goal) }
-    ensures promise { IfOk result (λ f. Promise (means goal) calls.now claimed.now f.answers.items (state f.sheet) f.verdict) }
+    ensures promise { IfOk result (λ f. Promise (G.means goal) calls.now claimed.now f.answers.items (state f.sheet) f.verdict) }
 {
     let mut answers = Vec::with_capacity(heap, calls.len())?;
     let mut sheet = Sheet::new(heap, goal)?;

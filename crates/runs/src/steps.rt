@@ -100,8 +100,8 @@ fn strike_row<G: Goal>(
     serial: Serial,
 ) -> Result<Reply, Refusal>
     requires ready { Ready (state sheet.old) slips.old.items }
-    ensures answer { result ≡ (strike (means sheet.old.goal) (state sheet.old) serial).answer }
-    ensures after { state sheet.new ≡ (strike (means sheet.old.goal) (state sheet.old) serial).after }
+    ensures answer { result ≡ (strike (G.means sheet.old.goal) (state sheet.old) serial).answer }
+    ensures after { state sheet.new ≡ (strike (G.means sheet.old.goal) (state sheet.old) serial).after }
     ensures same { sheet.new.goal ≡ sheet.old.goal }
     ensures ready { Ready (state sheet.new) slips.new.items }
     ensures room { vec_capacity slips.new ≡ vec_capacity slips.old }
@@ -120,8 +120,8 @@ fn exchange_row<G: Goal>(
     cube: Cube,
 ) -> Result<Reply, Refusal>
     requires ready { Ready (state sheet.old) slips.old.items }
-    ensures answer { result ≡ (exchange (means sheet.old.goal) (state sheet.old) serial cube).answer }
-    ensures after { state sheet.new ≡ (exchange (means sheet.old.goal) (state sheet.old) serial cube).after }
+    ensures answer { result ≡ (exchange (G.means sheet.old.goal) (state sheet.old) serial cube).answer }
+    ensures after { state sheet.new ≡ (exchange (G.means sheet.old.goal) (state sheet.old) serial cube).after }
     ensures same { sheet.new.goal ≡ sheet.old.goal }
     ensures ready { Ready (state sheet.new) slips.new.items }
     ensures room { vec_capacity slips.new ≡ vec_capacity slips.old }
@@ -140,8 +140,8 @@ pub(crate) fn step<G: Goal>(
 ) -> Result<Reply, Refusal>
     requires ready { Ready (state sheet.old) slips.old.items }
     requires room { 256 ≤ vec_capacity slips.old }
-    ensures answer { result ≡ (does (means sheet.old.goal) (state sheet.old) call).answer }
-    ensures after { state sheet.new ≡ (does (means sheet.old.goal) (state sheet.old) call).after }
+    ensures answer { result ≡ (does (G.means sheet.old.goal) (state sheet.old) call).answer }
+    ensures after { state sheet.new ≡ (does (G.means sheet.old.goal) (state sheet.old) call).after }
     ensures same { sheet.new.goal ≡ sheet.old.goal }
     ensures ready { Ready (state sheet.new) slips.new.items }
     ensures room { vec_capacity slips.new ≡ vec_capacity slips.old }

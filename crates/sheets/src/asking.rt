@@ -9,7 +9,7 @@ use goals::goal::Goal;
 
 // Whether the row, in place or out, covers the duty.
 pub(crate) fn row_covers<G: Goal>(goal: &G, row: &Row, duty: u32) -> bool
-    ensures { result ≡ row_covers (means goal.now) row.now duty }
+    ensures { result ≡ row_covers (G.means goal.now) row.now duty }
 {
     match Cube::from_masks(row.zeros, row.ones) {
         Ok(cube) => goal.covers(cube, duty),
@@ -19,7 +19,7 @@ pub(crate) fn row_covers<G: Goal>(goal: &G, row: &Row, duty: u32) -> bool
 
 // All duties that the row covers.
 pub(crate) fn mark_row<G: Goal>(goal: &G, row: &Row, marks: &mut [bool])
-    ensures { RowMarked (means goal.now) row.now marks.new }
+    ensures { RowMarked (G.means goal.now) row.now marks.new }
 {
     match Cube::from_masks(row.zeros, row.ones) {
         Ok(cube) => goal.mark(cube, marks),
@@ -32,14 +32,14 @@ pub(crate) fn mark_row<G: Goal>(goal: &G, row: &Row, marks: &mut [bool])
 }
 
 fn covers_in_place<G: Goal>(goal: &G, row: &Row, duty: u32) -> bool
-    ensures { result ≡ (not row.now.out && row_covers (means goal.now) row.now duty) }
+    ensures { result ≡ (not row.now.out && row_covers (G.means goal.now) row.now duty) }
 {
     !row.out && row_covers(goal, row, duty)
 }
 
 // Whether a row in place covers the duty.
 pub(crate) fn any_in_place<G: Goal>(goal: &G, rows: &[Row], duty: u32) -> bool
-    ensures { result ≡ in_place (means goal.now) rows.now duty }
+    ensures { result ≡ in_place (G.means goal.now) rows.now duty }
 {
     for row in rows {
         if covers_in_place(goal, row, duty) {
@@ -51,7 +51,7 @@ pub(crate) fn any_in_place<G: Goal>(goal: &G, rows: &[Row], duty: u32) -> bool
 
 // Whether an input at or above the goal's is known.
 pub(crate) fn is_above<G: Goal>(goal: &G, cube: Cube) -> bool
-    ensures { result ≡ above (means goal.now) cube }
+    ensures { result ≡ above (G.means goal.now) cube }
 {
     let top = 1u32 << goal.inputs();
     u32::from(cube.zeros()) >= top || u32::from(cube.ones()) >= top

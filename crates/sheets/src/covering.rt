@@ -13,8 +13,8 @@ use goals::goal::Goal;
 
 impl<G: Goal> Sheet<G> {
     pub fn cover(&mut self, duty: u32) -> Result<Covered, Refusal>
-        ensures answer { told covered_reply result ≡ (cover (means self.old.goal) (state self.old) duty).answer }
-        ensures after { state self.new ≡ (cover (means self.old.goal) (state self.old) duty).after }
+        ensures answer { told covered_reply result ≡ (cover (G.means self.old.goal) (state self.old) duty).answer }
+        ensures after { state self.new ≡ (cover (G.means self.old.goal) (state self.old) duty).after }
         ensures same { self.new.goal ≡ self.old.goal }
     {
         if duty >= self.goal.duties() {

@@ -36,8 +36,8 @@ impl<G: Goal> Sheet<G> {
     }
 
     pub fn enter(&mut self, cube: Cube) -> Result<Serial, Refusal>
-        ensures answer { told Gave result ≡ (enter (means self.old.goal) (state self.old) cube).answer }
-        ensures after { state self.new ≡ (enter (means self.old.goal) (state self.old) cube).after }
+        ensures answer { told Gave result ≡ (enter (G.means self.old.goal) (state self.old) cube).answer }
+        ensures after { state self.new ≡ (enter (G.means self.old.goal) (state self.old) cube).after }
         ensures same { self.new.goal ≡ self.old.goal }
     {
         if is_above(&self.goal, cube) {

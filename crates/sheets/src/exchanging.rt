@@ -18,8 +18,8 @@ impl<G: Goal> Sheet<G> {
     // Gives the row of the slip a new cube, and makes it in place; it keeps its serial and its place in the order.
     // Where it is refused for the cube or for a duty, the row is in place again as it was.
     pub fn exchange(&mut self, slip: Slip, cube: Cube) -> Result<(), Refusal>
-        ensures answer { told (λ _. Done) result ≡ (exchange (means self.old.goal) (state self.old) slip.serial cube).answer }
-        ensures after { state self.new ≡ (exchange (means self.old.goal) (state self.old) slip.serial cube).after }
+        ensures answer { told (λ _. Done) result ≡ (exchange (G.means self.old.goal) (state self.old) slip.serial cube).answer }
+        ensures after { state self.new ≡ (exchange (G.means self.old.goal) (state self.old) slip.serial cube).after }
         ensures same { self.new.goal ≡ self.old.goal }
     {
         let Slip { serial } = slip;

@@ -92,7 +92,7 @@ impl<G: Goal> Sheet<G> {
     // Writes each row in place from the start of a lent text, and answers the length; the rest of the text stays, and
     // nothing is written where it is too short.
     pub fn list(&self, text: &mut [u8]) -> Result<usize, TextTooShort>
-        ensures { Lent (listing (means self.now.goal) self.now.rows.items) text.old text.new result }
+        ensures { Lent (listing (G.means self.now.goal) self.now.rows.items) text.old text.new result }
     {
         let inputs = self.goal.inputs();
         let length = lines_length(self.rows.as_slice(), inputs);

@@ -12,7 +12,7 @@ use goals::goal::Goal;
 // Leaves only the wanted duties.
 fn keep_wanted<G: Goal>(goal: &G, left: &mut [bool])
     requires { length left.old ≤ 65535 }
-    ensures { (d : ℕ) → d < length left.new → slice_index_or left.new d false ≡ ((means goal.now).wanted d && slice_index_or left.old d false) }
+    ensures { (d : ℕ) → d < length left.new → slice_index_or left.new d false ≡ ((G.means goal.now).wanted d && slice_index_or left.old d false) }
 {
     for duty in 0..left.len() {
         left[duty] = left[duty] && goal.wanted(duty as u32);
@@ -53,7 +53,7 @@ pub(crate) fn first_lost<G: Goal>(
 ) -> Option<u32>
     requires left { length left.old ≡ 65535 }
     requires marks { length marks.old ≡ 65535 }
-    ensures { result ≡ lost (means goal.now) (row_covers (means goal.now) row.now) (λ d. some_covers (means goal.now) by d || in_place (means goal.now) rows.now d) }
+    ensures { result ≡ lost (G.means goal.now) (row_covers (G.means goal.now) row.now) (λ d. some_covers (G.means goal.now) by d || in_place (G.means goal.now) rows.now d) }
 {
     mark_row(goal, row, left);
     keep_wanted(goal, left);

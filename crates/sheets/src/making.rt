@@ -14,7 +14,7 @@ impl<G: Goal> Sheet<G> {
     where
         G: Drop,
         ensures made { IfOk result (λ s. (s.goal ≡ goal) × (state s ≡ new)) }
-        ensures kept { Kept (means goal) }
+        ensures kept { Kept (G.means goal) }
     {
         let rows = Vec::with_capacity(heap, 256)?;
         let marks = vec![in heap; false; 65535]?;

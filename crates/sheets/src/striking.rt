@@ -14,8 +14,8 @@ use goals::goal::Goal;
 impl<G: Goal> Sheet<G> {
     // Removes the row of the slip. Where a duty would be left bare, the row is in place again.
     pub fn strike(&mut self, slip: Slip) -> Result<(), Refusal>
-        ensures answer { told (λ _. Done) result ≡ (strike (means self.old.goal) (state self.old) slip.serial).answer }
-        ensures after { state self.new ≡ (strike (means self.old.goal) (state self.old) slip.serial).after }
+        ensures answer { told (λ _. Done) result ≡ (strike (G.means self.old.goal) (state self.old) slip.serial).answer }
+        ensures after { state self.new ≡ (strike (G.means self.old.goal) (state self.old) slip.serial).after }
         ensures same { self.new.goal ≡ self.old.goal }
     {
         let Slip { serial } = slip;

@@ -42,7 +42,7 @@ fn tally<G: Goal>(goal: &G, rows: &[Row], counts: &mut [u16], marks: &mut [bool]
     requires few { length rows.now ≤ 256 }
     requires counts { length counts.old ≡ 65535 }
     requires marks { length marks.old ≡ 65535 }
-    ensures { Tallied (means goal.now) rows.now counts.new }
+    ensures { Tallied (G.means goal.now) rows.now counts.new }
 {
     for count in counts.iter_mut() {
         *count = 0;
@@ -59,7 +59,7 @@ fn tally<G: Goal>(goal: &G, rows: &[Row], counts: &mut [u16], marks: &mut [bool]
 fn is_sole<G: Goal>(goal: &G, counts: &[u16], marks: &[bool]) -> bool
     requires counts { length counts.now ≡ 65535 }
     requires marks { length marks.now ≡ 65535 }
-    ensures { result ≡ has_sole (means goal.now) counts.now marks.now }
+    ensures { result ≡ has_sole (G.means goal.now) counts.now marks.now }
 {
     for duty in 0..counts.len() {
         if marks[duty] && counts[duty] == 1 && goal.wanted(duty as u32) {
@@ -73,11 +73,11 @@ impl<G: Goal> Sheet<G> {
     // Removes row i unless it is needed, and keeps the tally true.
     fn sweep_row(&mut self, i: usize)
         requires within { i < vec_len self.old.rows }
-        requires tallied { Tallied (means self.old.goal) self.old.rows.items self.old.counts.items }
-        ensures rows { self.new.rows.items ≡ (if needed (means self.old.goal) (slice_index_or self.old.rows.items i no_row) (remove self.old.rows.items i) then self.old.rows.items else remove self.old.rows.items i) }
+        requires tallied { Tallied (G.means self.old.goal) self.old.rows.items self.old.counts.items }
+        ensures rows { self.new.rows.items ≡ (if needed (G.means self.old.goal) (slice_index_or self.old.rows.items i no_row) (remove self.old.rows.items i) then self.old.rows.items else remove self.old.rows.items i) }
         ensures given { self.new.given ≡ self.old.given }
         ensures same { self.new.goal ≡ self.old.goal }
-        ensures tallied { Tallied (means self.new.goal) self.new.rows.items self.new.counts.items }
+        ensures tallied { Tallied (G.means self.new.goal) self.new.rows.items self.new.counts.items }
     {
         let row = self.rows[i];
         if row.out {
@@ -93,8 +93,8 @@ impl<G: Goal> Sheet<G> {
 
     // Answers how many rows it removed.
     pub fn sweep(&mut self) -> u16
-        ensures answer { Ok (Removed result) ≡ (sweep (means self.old.goal) (state self.old)).answer }
-        ensures after { state self.new ≡ (sweep (means self.old.goal) (state self.old)).after }
+        ensures answer { Ok (Removed result) ≡ (sweep (G.means self.old.goal) (state self.old)).answer }
+        ensures after { state self.new ≡ (sweep (G.means self.old.goal) (state self.old)).after }
         ensures same { self.new.goal ≡ self.old.goal }
     {
         let before = self.rows.len();

@@ -6,8 +6,8 @@ use Rattle.devices.proofs.labels.labels.Goals as goal
 
 pub loop-k-preserved : goal.loop-k-preserved
 loop-k-preserved g c = (
-  filled (Label (g.D.Device.means c.args.device.now)) c.loop-k.list 0 c.loop-k.k c.label-of.result (omega arith) c.loop-k.invariant.0 c.label-of.ensures,
-  λ k h. get_or-set_other c.loop-k.list c.loop-k.k k c.label-of.result 0 (λ e. omega arith) ∙ c.loop-k.invariant.1 k (omega arith),
+  filled (Label (g.D.Device.means c.args.device.now)) c.loop-k.list 0 c.loop-k.k c.label_of.result (omega arith) c.loop-k.invariant.0 c.label_of.ensures,
+  λ k h. get_or-set_other c.loop-k.list c.loop-k.k k c.label_of.result 0 (λ e. omega arith) ∙ c.loop-k.invariant.1 k (omega arith),
 )
 
 pub returns : goal.returns

@@ -2,8 +2,8 @@ use Rattle.std.proofs.Common.{sym, arith}
 use Rattle.cubes.proofs.Bits.{vectors_counted}
 use Rattle.devices.proofs.telling.smallest_telling.Goals as goal
 
-pub overflow-cast-number : goal.overflow-cast-number
-overflow-cast-number g c =
+pub overflow_cast-number : goal.overflow_cast-number
+overflow_cast-number g c =
     let k = vectors_counted _ _ c.inputs.ensures (g.met.D.Device.lawful c.args.device.now).few_inputs in
     omega (arith, k.0, k.1, c.loop-number-test.true)
 

@@ -7,11 +7,5 @@ use Rattle.cubes.proofs.Words.{has_low, has_zero}
 use Rattle.cubes.proofs.Filling.{filled}
 use Rattle.devices.proofs.widely.kept_words.Goals as goal
 
-pub loop-o-init : goal.loop-o-init
-loop-o-init c = ?
-
-pub loop-o-preserved : goal.loop-o-preserved
-loop-o-preserved c = ?
-
 pub returns : goal.returns
 returns c k o h = c.loop-o.invariant.1 o (omega arith) k
