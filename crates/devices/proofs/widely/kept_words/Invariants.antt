@@ -6,4 +6,4 @@ abbrev pub invariant-loop-o : goal.invariant-loop-o
 invariant-loop-o l =
     (length l.seen ≡ 32)
     × ((o : ℕ) → o < l.o → (k : ℕ) → has (get_or l.seen o 0) k ≡ (has (get_or l.words o 0) k && has l.mask o))
-    × ((o : ℕ) → l.o ≤ o → get_or l.seen o 0 ≡ 0)
+    × ((o : ℕ) → l.o ≤ o → o < 32 → get_or l.seen o 0 ≡ 0)
