@@ -5,8 +5,8 @@ use Rattle.boards.specs.Cards.{read}
 use Rattle.boards.specs.Pins.{few_pins}
 use Rattle.boards.proofs.gates.made_of.Goals as goal
 
-pub gate-value-requires : goal.gate-value-requires
-gate-value-requires c =
+pub gate_value-requires : goal.gate_value-requires
+gate_value-requires c =
     let g = c.args.stored.now in
     record {
       inside = subst (λ (n : ℕ). (k : ℕ) → k < length (take n g.lines) → get_or (take n g.lines) k 0 < 512) (sym (sub-zero g.count)) c.requires.inside;
@@ -16,4 +16,4 @@ gate-value-requires c =
 pub returns : goal.returns
 returns c =
     let g = c.args.stored.now in
-    c.gate-value.ensures ∙ ap (λ n. gate g.kind (map (read c.args.values.now) (take n g.lines))) (sub-zero g.count)
+    c.gate_value.ensures ∙ ap (λ n. gate g.kind (map (read c.args.values.now) (take n g.lines))) (sub-zero g.count)

@@ -10,7 +10,7 @@ pub trouble-requires : goal.trouble-requires
 trouble-requires c =
     let bs = c.args.bytes.now in
     let r = c.loop-r.r in
-    let s = (reached bs (λ i. (c.type-inv.bytes i).fits) r (omega arith) c.loop-r.invariant.1).0 in
+    let s = (reached bs (λ i. (c.type_inv.bytes i).fits) r (omega arith) c.loop-r.invariant.1).0 in
     let e = c.loop-r.invariant.0 in
     record {
       few = omega (arith, ap (λ (x : Seen). x.inputs) e, ap (λ (x : Seen). x.gates) e, s.few_lines);
@@ -21,7 +21,7 @@ pub returns-in-Some : goal.returns-in-Some
 returns-in-Some c =
     let bs = c.args.bytes.now in
     let r = c.loop-r.r in
-    let s = reached bs (λ i. (c.type-inv.bytes i).fits) r (omega arith) c.loop-r.invariant.1 in (
+    let s = reached bs (λ i. (c.type_inv.bytes i).fits) r (omega arith) c.loop-r.invariant.1 in (
       c.if-bytes-ne0.false,
       c.loop-r-test.true,
       (
@@ -32,10 +32,10 @@ returns-in-Some c =
       ),
     )
 
-pub count-record-seen-requires : goal.count-record-seen-requires
-count-record-seen-requires c =
+pub count_record-seen-requires : goal.count_record-seen-requires
+count_record-seen-requires c =
     let bs = c.args.bytes.now in
-    let s = (reached bs (λ i. (c.type-inv.bytes i).fits) c.loop-r.r (omega arith) c.loop-r.invariant.1).0 in
+    let s = (reached bs (λ i. (c.type_inv.bytes i).fits) c.loop-r.r (omega arith) c.loop-r.invariant.1).0 in
     let e = c.loop-r.invariant.0 in (
       omega (arith, ap (λ (x : Seen). x.inputs) e, s.few_inputs),
       (
@@ -52,8 +52,8 @@ loop-r-preserved c =
     let bs = c.args.bytes.now in
     let r = c.loop-r.r in
     let seen = c.loop-r.seen in
-    let good : trouble seen (record_at bs r) ≡ None = ap (trouble seen) (sym (part_is bs r)) ∙ sym c.in-default.ensures in (
-      c.count-record-seen.ensures
+    let good : trouble seen (record_at bs r) ≡ None = ap (trouble seen) (sym (part_is bs r)) ∙ sym c.in_default.ensures in (
+      c.count_record-seen.ensures
           ∙ ap (λ p. counted seen (get_or p 0 0)) (part_is bs r)
           ∙ ap (λ x. counted x (get_or (record_at bs r) 0 0)) c.loop-r.invariant.0
           ∙ sym (counts_more (so_far bs r) (record_at bs r))

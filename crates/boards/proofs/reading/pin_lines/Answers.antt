@@ -7,5 +7,5 @@ same_six a a' b b' c c' d d' e e' f f' p q r s t u = cc
 
 pub returns : goal.returns
 returns c =
-    same_six _ _ _ _ _ _ _ _ _ _ _ _ c.word-of.ensures c.word-of-2.ensures c.word-of-3.ensures c.word-of-4.ensures c.word-of-5.ensures c.word-of-6.ensures
+    same_six _ _ _ _ _ _ _ _ _ _ _ _ c.word_of.ensures c.word_of-2.ensures c.word_of-3.ensures c.word_of-4.ensures c.word_of-5.ensures c.word_of-6.ensures
     ∙ sym (six_words c.args.rest.now c.requires)

@@ -8,11 +8,11 @@ loop-k-init c =
     let all : c.args.count - 0 ≡ c.args.count = omega arith in
     ap (λ n. all_below c.args.lines (take n (words c.args.pins.now))) all
 
-pub returns-then-word-of-lines : goal.returns-then-word-of-lines
-returns-then-word-of-lines c = sym (sym c.loop-k.invariant ∙ below_end c.args.lines c.args.count c.args.pins.now c.loop-k.k c.word-of.result (omega arith) (omega arith) c.word-of.ensures c.if-word-of-lines.true)
+pub returns-then-word_of-lines : goal.returns-then-word_of-lines
+returns-then-word_of-lines c = sym (sym c.loop-k.invariant ∙ below_end c.args.lines c.args.count c.args.pins.now c.loop-k.k c.word_of.result (omega arith) (omega arith) c.word_of.ensures c.if-word_of-lines.true)
 
 pub loop-k-preserved : goal.loop-k-preserved
-loop-k-preserved c = below_more_pins c.args.lines c.args.count c.args.pins.now c.loop-k.k c.word-of.result (omega arith) (omega arith) c.word-of.ensures c.if-word-of-lines.false ∙ c.loop-k.invariant
+loop-k-preserved c = below_more_pins c.args.lines c.args.count c.args.pins.now c.loop-k.k c.word_of.result (omega arith) (omega arith) c.word_of.ensures c.if-word_of-lines.false ∙ c.loop-k.invariant
 
 pub returns : goal.returns
 returns c =

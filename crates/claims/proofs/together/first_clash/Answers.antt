@@ -5,8 +5,8 @@ use Rattle.claims.specs.Claims.{Earliest}
 use Rattle.claims.proofs.Clashes.{Both, both_more, clash_is}
 use Rattle.claims.proofs.together.first_clash.Goals as goal
 
-pub overflow-cast-number : goal.overflow-cast-number
-overflow-cast-number g c =
+pub overflow_cast-number : goal.overflow_cast-number
+overflow_cast-number g c =
     let k = vectors_counted _ _ c.inputs.ensures (g.met.G.Goal.lawful c.args.goal.now).few_inputs in
     omega (arith, k.0, k.1, c.loop-number-test.true)
 
@@ -14,7 +14,7 @@ pub loop-number-preserved : goal.loop-number-preserved
 loop-number-preserved g c =
     let m = g.G.Goal.means c.args.goal.now in
     let ds = c.args.duties.now in
-    both_more m ds c.loop-number.number c.loop-number.best c.two-at.result c.the-sooner-best.result c.loop-number.invariant c.two-at.ensures c.the-sooner-best.ensures
+    both_more m ds c.loop-number.number c.loop-number.best c.two_at.result c.the_sooner-best.result c.loop-number.invariant c.two_at.ensures c.the_sooner-best.ensures
 
 pub returns : goal.returns
 returns g c =

@@ -15,7 +15,7 @@ loop-row-preserved c =
     let v = c.loop-row.invariant.0 in
     let b = c.loop-row.invariant.1 in
     elim c.if-not-row.branch [
-      | then-not-row w ↦ (let f = length_lines_in n (get_or rows i no_row) (drop (i + 1) rows) w.if-not-row.true in let k = w.all-is in let x = w.line-length-all.ensures.value in let y = w.line-length-all.ensures.few in (omega arith, omega arith))
+      | then-not-row w ↦ (let f = length_lines_in n (get_or rows i no_row) (drop (i + 1) rows) w.if-not-row.true in let k = w.all-is in let x = w.line_length-all.ensures.value in let y = w.line_length-all.ensures.few in (omega arith, omega arith))
       | else-not-row w ↦ (let f = ap length (lines_out n (get_or rows i no_row) (drop (i + 1) rows) w.if-not-row.false) in let k = w.all-is in (omega arith, omega arith))
     ]
 

@@ -7,8 +7,8 @@ use Rattle.sheets.proofs.Lines.{lines_out, lines_more, length_lines_in}
 use Rattle.sheets.proofs.listing.put_lines.Goals as goal
 use Rattle.sheets.proofs.listing.put_lines.Goals.{then-not-row, else-not-row}
 
-pub put-line-requires : goal.put-line-requires
-put-line-requires c =
+pub put_line-requires : goal.put_line-requires
+put_line-requires c =
     let n = c.args.inputs in
     let i = c.loop-row.row-index in
     let rows = c.args.rows.now in
@@ -32,9 +32,9 @@ loop-row-preserved c =
       | then-not-row w ↦
           (let o = w.if-not-row.true in
           let f = length_lines_in n r rest o in
-          let x = w.line-length-at.ensures.value in
+          let x = w.line_length-at.ensures.value in
           let k : c.if-not-row.at ≡ at + length (row_line n r) = omega (arith, w.at-is) in (
-            ap (λ u. placed u c.if-not-row.at (lines n rest)) (w.text-is ∙ w.put-line.ensures)
+            ap (λ u. placed u c.if-not-row.at (lines n rest)) (w.text-is ∙ w.put_line.ensures)
                 ∙ ap (λ j. placed (placed t at (row_line n r)) j (lines n rest)) k
                 ∙ sym (lines_more t at n r rest o) ∙ p,
             omega arith,

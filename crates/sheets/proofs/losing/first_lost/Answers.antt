@@ -2,7 +2,7 @@ use Rattle.std.proofs.Common.{◌≡◌, ℕ, ◌+◌, ◌<◌, Bool, false, not
 use Rattle.sheets.specs.Sheets.{row_covers, some_covers, in_place, loses}
 use Rattle.sheets.proofs.Losses.{ApartFrom, apart_in, apart_out, apart_all, lost_further}
 use Rattle.sheets.proofs.losing.first_lost.Goals as goal
-use Rattle.sheets.proofs.losing.first_lost.Goals.{in-Some, in-default, then-not-other, else-not-other}
+use Rattle.sheets.proofs.losing.first_lost.Goals.{in-Some, in_default, then-not-other, else-not-other}
 
 pub loop-other-preserved : goal.loop-other-preserved
 loop-other-preserved g c =
@@ -14,8 +14,8 @@ loop-other-preserved g c =
     let h = c.loop-other-test.true in
     elim c.if-not-other.branch [
       | then-not-other w ↦ subst (ApartFrom m passes (drop (i + 1) rows)) (sym w.left-is)
-          (apart_in m passes rows i left h w.if-not-other.true w.take-off-then-not-other.new.left w.take-off-then-not-other.auto.left
-          (λ d l. w.take-off-then-not-other.ensures d l ∙ ap (λ (b : Bool). get_or left d false && not b) (w.mark-row-then-not-other.ensures d (omega arith)))
+          (apart_in m passes rows i left h w.if-not-other.true w.take_off-then-not-other.new.left w.take_off-then-not-other.auto.left
+          (λ d l. w.take_off-then-not-other.ensures d l ∙ ap (λ (b : Bool). get_or left d false && not b) (w.mark_row-then-not-other.ensures d (omega arith)))
           c.loop-other.invariant)
       | else-not-other w ↦ subst (ApartFrom m passes (drop (i + 1) rows)) (sym w.left-is) (apart_out m passes rows i left h w.if-not-other.false c.loop-other.invariant)
     ]
@@ -32,18 +32,18 @@ returns g c =
     let had : ℕ → Bool = row_covers m c.args.row.now in
     let has : ℕ → Bool = λ d. some_covers m c.args.by d || in_place m rows d in
     let passes : ℕ → Bool = λ d. get_or left d false && not (in_place m rows d) in
-    let wants : (d : ℕ) → d < length left → get_or c.keep-wanted.new.left d false ≡ (m.wanted d && had d) =
-    λ d l. c.keep-wanted.ensures d (omega arith) ∙ ap (λ (b : Bool). m.wanted d && b) (c.mark-row.ensures d (omega arith)) in
+    let wants : (d : ℕ) → d < length left → get_or c.keep_wanted.new.left d false ≡ (m.wanted d && had d) =
+    λ d l. c.keep_wanted.ensures d (omega arith) ∙ ap (λ (b : Bool). m.wanted d && b) (c.mark_row.ensures d (omega arith)) in
     let start : (d : ℕ) → d < length left → passes d ≡ loses m had has d =
     elim c.match-by.branch [
-      | in-Some w ↦ λ d l. (let n = ap length w.left-is in parts (get_or left d false) (get_or c.keep-wanted.new.left d false) (m.wanted d) (had d) (some_covers m c.args.by d) (in_place m rows d)
-          (ap (λ xs. get_or xs d false) w.left-is ∙ w.take-off.ensures d (omega arith)
-          ∙ ap (λ (b : Bool). get_or c.keep-wanted.new.left d false && not b) (w.mark.ensures d (omega arith) ∙ sym (ap (λ o. some_covers m o d) w.in-Some.is)))
+      | in-Some w ↦ λ d l. (let n = ap length w.left-is in parts (get_or left d false) (get_or c.keep_wanted.new.left d false) (m.wanted d) (had d) (some_covers m c.args.by d) (in_place m rows d)
+          (ap (λ xs. get_or xs d false) w.left-is ∙ w.take_off.ensures d (omega arith)
+          ∙ ap (λ (b : Bool). get_or c.keep_wanted.new.left d false && not b) (w.mark.ensures d (omega arith) ∙ sym (ap (λ o. some_covers m o d) w.in-Some.is)))
           (wants d l))
-      | in-default w ↦ λ d l. parts (get_or left d false) (get_or c.keep-wanted.new.left d false) (m.wanted d) (had d) (some_covers m c.args.by d) (in_place m rows d)
-          (let e = ap (λ xs. get_or xs d false) w.left-is in let o = ap (λ o. some_covers m o d) w.in-default.is in grind arith) (wants d l)
+      | in_default w ↦ λ d l. parts (get_or left d false) (get_or c.keep_wanted.new.left d false) (m.wanted d) (had d) (some_covers m c.args.by d) (in_place m rows d)
+          (let e = ap (λ xs. get_or xs d false) w.left-is in let o = ap (λ o. some_covers m o d) w.in_default.is in grind arith) (wants d l)
     ] in
     let each : (d : ℕ) → d < length c.loop-other.left → get_or c.loop-other.left d false ≡ loses m had has d =
     λ d l. apart_all m passes rows c.loop-other.other-index c.loop-other.left c.loop-other-test.false c.loop-other.invariant d l ∙ start d (omega arith) in
     let law = g.met.G.Goal.lawful c.args.goal.now in
-    c.first-left.ensures ∙ lost_further m law had has c.loop-other.left (omega (arith, law.few_duties)) each
+    c.first_left.ensures ∙ lost_further m law had has c.loop-other.left (omega (arith, law.few_duties)) each

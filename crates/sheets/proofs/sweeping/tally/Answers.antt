@@ -9,8 +9,8 @@ use Rattle.sheets.proofs.sweeping.tally.Goals.{then-not-row, else-not-row}
 pub loop-count-preserved : goal.loop-count-preserved
 loop-count-preserved g c =
     below_more _ _
-    (λ k h. let ne : k ≢ c.loop-count.count_index = omega arith in rw get_or-set_other (c.loop-count.invariant k h))
-    (let lt : c.loop-count.count_index < length c.loop-count.counts = omega arith in rw get_or-set_same)
+    (λ k h. let ne : k ≢ c.loop-count.count-index = omega arith in rw get_or-set_other (c.loop-count.invariant k h))
+    (let lt : c.loop-count.count-index < length c.loop-count.counts = omega arith in rw get_or-set_same)
 
 most : (b : Bool) → cond {A = ℕ} b 1 0 ≤ 1
 most true = omega arith
@@ -26,10 +26,10 @@ loop-row-preserved g c d h =
     elim c.if-not-row.branch [
       | then-not-row w ↦
           (let f = times_in m (get_or rows i no_row) (drop (i + 1) rows) d w.if-not-row.true in
-          let a = w.add-marks.ensures d (omega (arith, ap length w.counts-is)) in
+          let a = w.add_marks.ensures d (omega (arith, ap length w.counts-is)) in
           let k = ap (λ (l : List ℕ). get_or l d 0) w.counts-is in
-          let u = ap (λ (b : Bool). cond {A = ℕ} b 1 0) (w.mark-row.ensures d (omega (arith, w.mark-row.auto.marks))) in
-          let s = most (get_or w.mark-row.new.marks d false) in
+          let u = ap (λ (b : Bool). cond {A = ℕ} b 1 0) (w.mark_row.ensures d (omega (arith, w.mark_row.auto.marks))) in
+          let s = most (get_or w.mark_row.new.marks d false) in
           (omega (arith, v.0), omega (arith, v.1)))
       | else-not-row w ↦
           (let f = times_out m (get_or rows i no_row) (drop (i + 1) rows) d w.if-not-row.false in

@@ -7,12 +7,12 @@ use Rattle.boards.proofs.Grown.{fault_more}
 use Rattle.boards.specs.Soundness.{sound, kept}
 use Rattle.boards.proofs.board.Board.add_fault.Goals as goal
 
-pub invariant-of-self : goal.invariant-of-self
-invariant-of-self c =
+pub invariant_of-self : goal.invariant_of-self
+invariant_of-self c =
     let b = c.args.self.now in
-    let fs = vec_items c.push-reserved.new.self in
+    let fs = vec_items c.push_reserved.new.self in
     let s : Sound (card b.inputs (wired (vec_items b.gates)) (vec_items b.outputs) fs) =
-    subst (λ (xs : List Fault). Sound (card b.inputs (wired (vec_items b.gates)) (vec_items b.outputs) xs)) (sym c.push-reserved.ensures.items)
+    subst (λ (xs : List Fault). Sound (card b.inputs (wired (vec_items b.gates)) (vec_items b.outputs) xs)) (sym c.push_reserved.ensures.items)
     (fault_more (card_of b) (sound b) c.args.fault c.requires.few c.requires.exists) in
     let k = kept b.inputs (vec_items b.gates) (vec_items b.outputs) fs s in
-    (k.few_inputs, (k.few_lines, (k.few_outputs, (k.few_faults, (k.pin_counts, (k.earlier, (k.outputs_exist, (k.faults_exist, (b.gate_room, (b.output_room, (omega (arith, c.push-reserved.ensures.capacity, b.fault_room), tt)))))))))))
+    record { few_inputs = k.few_inputs; few_lines = k.few_lines; few_outputs = k.few_outputs; few_faults = k.few_faults; pin_counts = k.pin_counts; earlier = k.earlier; outputs_exist = k.outputs_exist; faults_exist = k.faults_exist; gate_room = b.gate_room; output_room = b.output_room; fault_room = omega (arith, c.push_reserved.ensures.capacity, b.fault_room) }

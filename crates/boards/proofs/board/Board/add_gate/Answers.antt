@@ -20,8 +20,8 @@ gate_with k ps = record { kind = k; pins = ps }
 wired_more : (gs gs' : List StoredGate) (g : StoredGate) → gs' ≡ gs ++ (g ∷ []) → wired gs' ≡ wired gs ++ (gate_of g ∷ [])
 wired_more gs gs' g e = ap wired e ∙ map_push gate_of gs g
 
-pub push-reserved-requires : goal.push-reserved-requires
-push-reserved-requires c =
+pub push_reserved-requires : goal.push_reserved-requires
+push_reserved-requires c =
     let b = c.args.self.now in
     let n = length-map (vec_items b.gates) gate_of in
     omega (arith, c.requires.few, b.gate_room, b.gates.ok.0)
@@ -34,13 +34,13 @@ stored g k n ws p q r = ap (λ x. gate_with x (take g.count g.lines)) p ∙ ap (
 after : (gs gs' : List StoredGate) (g : StoredGate) (k : Kind) (n : ℕ) (ws : List ℕ) → gs' ≡ gs ++ (g ∷ []) → g.kind ≡ k → g.count ≡ n → g.lines ≡ ws → wired gs' ≡ wired gs ++ (gate_with k (take n ws) ∷ [])
 after gs gs' g k n ws e p q r = wired_more gs gs' g e ∙ ap (λ x. wired gs ++ (x ∷ [])) (stored g k n ws p q r)
 
-pub invariant-of-self : goal.invariant-of-self
-invariant-of-self c =
+pub invariant_of-self : goal.invariant_of-self
+invariant_of-self c =
     let b = c.args.self.now in
     let ws = words c.args.rest.now in
-    let gs' = vec_items c.push-reserved.new.self in
+    let gs' = vec_items c.push_reserved.new.self in
     let e : wired gs' ≡ wired (vec_items b.gates) ++ (gate_with c.args.kind (take c.args.count ws) ∷ []) =
-    after (vec_items b.gates) gs' _ c.args.kind c.args.count ws c.push-reserved.ensures.items refl refl c.pin-lines-lines.ensures in
+    after (vec_items b.gates) gs' _ c.args.kind c.args.count ws c.push_reserved.ensures.items refl refl c.pin_lines-lines.ensures in
     let few = few_pins c.args.kind c.args.count c.requires.fits in
     let six : length ws ≡ 6 = six_lines c.args.rest.now c.requires.twelve in
     let n : length (take c.args.count ws) ≡ c.args.count = let t = length-take c.args.count ws in omega (arith, few.1) in
@@ -48,11 +48,11 @@ invariant-of-self c =
     subst (λ (gs : List Gate). Sound (card b.inputs gs (vec_items b.outputs) (vec_items b.faults))) (sym e)
     (gate_more (card_of b) (sound b) (gate_with c.args.kind (take c.args.count ws)) c.requires.few (ap (pins_fit c.args.kind) n ∙ c.requires.fits) (below_each (lines (card_of b)) (take c.args.count ws) c.requires.earlier)) in
     let k = kept b.inputs gs' (vec_items b.outputs) (vec_items b.faults) s in
-    (k.few_inputs, (k.few_lines, (k.few_outputs, (k.few_faults, (k.pin_counts, (k.earlier, (k.outputs_exist, (k.faults_exist, (omega (arith, c.push-reserved.ensures.capacity, b.gate_room), (b.output_room, (b.fault_room, tt)))))))))))
+    record { few_inputs = k.few_inputs; few_lines = k.few_lines; few_outputs = k.few_outputs; few_faults = k.few_faults; pin_counts = k.pin_counts; earlier = k.earlier; outputs_exist = k.outputs_exist; faults_exist = k.faults_exist; gate_room = omega (arith, c.push_reserved.ensures.capacity, b.gate_room); output_room = b.output_room; fault_room = b.fault_room }
 
 pub returns : goal.returns
 returns c =
     let b = c.args.self.now in
     let ws = words c.args.rest.now in
     ap (λ gs. card b.inputs gs (vec_items b.outputs) (vec_items b.faults))
-    (after (vec_items b.gates) (vec_items c.push-reserved.new.self) _ c.args.kind c.args.count ws c.push-reserved.ensures.items refl refl c.pin-lines-lines.ensures)
+    (after (vec_items b.gates) (vec_items c.push_reserved.new.self) _ c.args.kind c.args.count ws c.push_reserved.ensures.items refl refl c.pin_lines-lines.ensures)

@@ -17,8 +17,8 @@ stored_at b k g l h e = get_or-map gate_of (vec_items b.gates) (k - b.inputs) g 
 pub index-requires : goal.index-requires
 index-requires c = omega (arith, lines_of c.args.self.now, c.requires)
 
-pub made-of-requires : goal.made-of-requires
-made-of-requires c =
+pub made_of-requires : goal.made_of-requires
+made_of-requires c =
     let b = c.args.self.now in
     let k = c.args.k in
     let i = k - b.inputs in
@@ -34,4 +34,4 @@ pub returns : goal.returns
 returns c =
     let b = c.args.self.now in
     let e = stored_at b c.args.k c.index.result.now c.if-k-inputs.false c.requires c.index.ensures in
-    c.made-of.ensures ∙ ap (λ (g : Gate). gate g.kind (map (read c.args.values.now) g.pins)) (sym e) ∙ rw (le-ltb c.args.k b.inputs c.if-k-inputs.false)
+    c.made_of.ensures ∙ ap (λ (g : Gate). gate g.kind (map (read c.args.values.now) g.pins)) (sym e) ∙ rw (le-ltb c.args.k b.inputs c.if-k-inputs.false)

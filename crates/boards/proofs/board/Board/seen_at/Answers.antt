@@ -16,14 +16,14 @@ bounds-values-index c =
     let q = b.outputs_exist c.loop-o.o in' in
     omega (arith, b.few_lines)
 
-pub with-bit-zeros-requires : goal.with-bit-zeros-requires
-with-bit-zeros-requires c =
+pub with_bit-zeros-requires : goal.with_bit-zeros-requires
+with_bit-zeros-requires c =
     let b = c.args.self.now in
     let h = mask_of_lt (λ o. is_zero (output (card_of b) c.args.values.now o)) c.loop-o.o in
     (omega (arith, b.few_outputs), omega (arith, c.loop-o.invariant.0))
 
-pub with-bit-ones-requires : goal.with-bit-ones-requires
-with-bit-ones-requires c =
+pub with_bit-ones-requires : goal.with_bit-ones-requires
+with_bit-ones-requires c =
     let b = c.args.self.now in
     let h = mask_of_lt (λ o. is_one (output (card_of b) c.args.values.now o)) c.loop-o.o in
     (omega (arith, b.few_outputs), omega (arith, c.loop-o.invariant.1))
@@ -36,6 +36,6 @@ loop-o-preserved c =
     let k = c.loop-o.o in
     let in' : k < length os = omega arith in
     let e : c.index.result.now ≡ get_or os k 0 = get_or_read os k _ in' c.index.ensures 0 in (
-      c.with-bit-zeros.ensures ∙ mask_of_more (λ o. is_zero (output (card_of b) vs o)) _ k _ c.loop-o.invariant.0 (c.zero.ensures ∙ ap (λ j. is_zero (read vs j)) e),
-      c.with-bit-ones.ensures ∙ mask_of_more (λ o. is_one (output (card_of b) vs o)) _ k _ c.loop-o.invariant.1 (c.one.ensures ∙ ap (λ j. is_one (read vs j)) e),
+      c.with_bit-zeros.ensures ∙ mask_of_more (λ o. is_zero (output (card_of b) vs o)) _ k _ c.loop-o.invariant.0 (c.zero.ensures ∙ ap (λ j. is_zero (read vs j)) e),
+      c.with_bit-ones.ensures ∙ mask_of_more (λ o. is_one (output (card_of b) vs o)) _ k _ c.loop-o.invariant.1 (c.one.ensures ∙ ap (λ j. is_one (read vs j)) e),
     )

@@ -18,14 +18,14 @@ bounds-values-k c = omega (arith, (sound c.args.self.now).few_lines)
 pub loop-k-preserved : goal.loop-k-preserved
 loop-k-preserved c =
     let b = c.args.self.now in
-    let f = c.fault-of-fault.result in
+    let f = c.fault_of-fault.result in
     let x = c.args.cube in
     let vs = c.loop-k.values in
     let k = c.loop-k.k in
     let ws = values (card_of b) f x k in
-    let here : c.held-value.result ≡ held f k _ =
-    c.held-value.ensures ∙ ap (held f k) (c.own-value-free.ensures ∙ itself_related Equal equal_kept (card_of b) (sound b) x x (read vs) (read ws) k (omega arith) (λ _. refl) (λ j _. c.loop-k.invariant.1 j)) in (
-      length-set vs k c.held-value.result ∙ c.loop-k.invariant.0,
+    let here : c.held_value.result ≡ held f k _ =
+    c.held_value.ensures ∙ ap (held f k) (c.own_value-free.ensures ∙ itself_related Equal equal_kept (card_of b) (sound b) x x (read vs) (read ws) k (omega arith) (λ _. refl) (λ j _. c.loop-k.invariant.1 j)) in (
+      length-set vs k c.held_value.result ∙ c.loop-k.invariant.0,
       rw (here, add-one k) (place_more Unknown vs ws k _ (omega (arith, c.loop-k.invariant.0, (sound b).few_lines)) (length_values (card_of b) f x k) c.loop-k.invariant.1),
     )
 
@@ -34,4 +34,4 @@ returns c =
     let b = c.args.self.now in
     let e : c.loop-k.k ≡ lines (card_of b) = omega arith in
     simulated (card_of b) (sound b) c.args.machine c.args.cube c.loop-k.values
-    (rw (← e, ← c.fault-of-fault.ensures) c.loop-k.invariant.1)
+    (rw (← e, ← c.fault_of-fault.ensures) c.loop-k.invariant.1)

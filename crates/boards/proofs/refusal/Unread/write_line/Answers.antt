@@ -43,23 +43,23 @@ module _ (t : List ℕ) (n r : ℕ) where
       ∙ next t ((front ++ (32 ∷ [])) ++ decimal r) (10 ∷ []) end (omega arith)
       ∙ ap (placed t 0) (parts (codes "refused ") (decimal n) (32 ∷ []) (decimal r) (10 ∷ []))
 
-pub overflow-add-blank : goal.overflow-add-blank
-overflow-add-blank c = let n = decimal_length_le c.number-number.result (omega arith) in omega (arith, c.decimal-length-blank.ensures)
+pub overflow_add-blank : goal.overflow_add-blank
+overflow_add-blank c = let n = decimal_length_le c.number-number.result (omega arith) in omega (arith, c.decimal_length-blank.ensures)
 
-pub overflow-add-end : goal.overflow-add-end
-overflow-add-end c = let n = decimal_length_le c.number-number.result (omega arith) in omega (arith, c.decimal-length-blank.ensures)
+pub overflow_add-end : goal.overflow_add-end
+overflow_add-end c = let n = decimal_length_le c.number-number.result (omega arith) in omega (arith, c.decimal_length-blank.ensures)
 
-pub overflow-add-end-2 : goal.overflow-add-end-2
-overflow-add-end-2 c =
+pub overflow_add-end-2 : goal.overflow_add-end-2
+overflow_add-end-2 c =
     let n = decimal_length_le c.number-number.result (omega arith) in
     let r = decimal_length_le c.record-named.result (omega arith) in
-    omega (arith, c.decimal-length-blank.ensures, c.decimal-length.ensures)
+    omega (arith, c.decimal_length-blank.ensures, c.decimal_length.ensures)
 
-pub overflow-add-end-3 : goal.overflow-add-end-3
-overflow-add-end-3 c =
+pub overflow_add-end-3 : goal.overflow_add-end-3
+overflow_add-end-3 c =
     let n = decimal_length_le c.number-number.result (omega arith) in
     let r = decimal_length_le c.record-named.result (omega arith) in
-    omega (arith, c.decimal-length-blank.ensures, c.decimal-length.ensures)
+    omega (arith, c.decimal_length-blank.ensures, c.decimal_length.ensures)
 
 -- the length of a number that a call gave
 measured : (l n m : ℕ) → l ≡ length (decimal n) → n ≡ m → l ≡ length (decimal m)
@@ -68,8 +68,8 @@ measured l n m e p = e ∙ ap (λ k. length (decimal k)) p
 pub returns-then-text-end : goal.returns-then-text-end
 returns-then-text-end c =
     let u = c.args.self.now in
-    let a = measured _ _ _ c.decimal-length-blank.ensures c.number-number.ensures in
-    let b = measured _ _ _ c.decimal-length.ensures c.record-named.ensures in
+    let a = measured _ _ _ c.decimal_length-blank.ensures c.number-number.ensures in
+    let b = measured _ _ _ c.decimal_length.ensures c.record-named.ensures in
     let l = line_length c.args.text.now (number u) (named u) in
     (omega (arith, c.if-text-end.true), refl)
 
@@ -79,20 +79,20 @@ returns c =
     let t = c.args.text.now in
     let n = c.number-number.result in
     let r = c.record-named.result in
-    let blank = 8 + c.decimal-length-blank.result in
-    let end = blank + 1 + c.decimal-length.result in
-    let a = measured _ _ _ c.decimal-length-blank.ensures c.number-number.ensures in
-    let b = measured _ _ _ c.decimal-length.ensures c.record-named.ensures in
+    let blank = 8 + c.decimal_length-blank.result in
+    let end = blank + 1 + c.decimal_length.result in
+    let a = measured _ _ _ c.decimal_length-blank.ensures c.number-number.ensures in
+    let b = measured _ _ _ c.decimal_length.ensures c.record-named.ensures in
     let l : length (refused_line u) ≡ 8 + length (decimal (number u)) + 1 + length (decimal (named u)) + 1 = line_length t (number u) (named u) in
     let fits : length (refused_line u) ≤ length t = omega (arith, c.if-text-end.false) in (
       omega arith,
       fits,
       c.put-2.ensures
-          ∙ ap (λ x. set x end 10) (c.put-decimal-2.ensures
+          ∙ ap (λ x. set x end 10) (c.put_decimal-2.ensures
           ∙ ap (λ x. placed x (blank + 1) (decimal r)) (c.put.ensures
-          ∙ ap (λ x. set x blank 32) (c.put-decimal.ensures
-          ∙ ap (λ x. placed x 8 (decimal n)) c.put-all.ensures)))
-          ∙ written t n r blank end (ap (λ k. 8 + k) c.decimal-length-blank.ensures) (ap (λ k. blank + 1 + k) c.decimal-length.ensures)
+          ∙ ap (λ x. set x blank 32) (c.put_decimal.ensures
+          ∙ ap (λ x. placed x 8 (decimal n)) c.put_all.ensures)))
+          ∙ written t n r blank end (ap (λ k. 8 + k) c.decimal_length-blank.ensures) (ap (λ k. blank + 1 + k) c.decimal_length.ensures)
           ∙ ap (λ m. placed t 0 (line t m r)) c.number-number.ensures
           ∙ ap (λ m. placed t 0 (line t (number u) m)) c.record-named.ensures
           ∙ placed_start t (refused_line u) fits,

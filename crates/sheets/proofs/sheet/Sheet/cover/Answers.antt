@@ -35,23 +35,23 @@ module _ (m : Meaning) (s : State) (d count : ℕ) (all : count ≡ m.duties) (b
       let e : entry s k ≡ cover m s d = ap (entry s) (is ∙ ap (λ x. vector x v) own) ∙ cover_by (Some v) first in
       (answer ∙ ap (λ (o : Outcome). o.answer) e, after ∙ ap (λ (o : Outcome). o.after) e)
 
-pub returns-in-default : goal.returns-in-default
-returns-in-default g c =
+pub returns-in_default : goal.returns-in_default
+returns-in_default g c =
     let e = none_covers (g.G.Goal.means c.args.self.now.goal) (state c.args.self.now) c.args.duty c.duties.result c.duties.ensures c.if-duty-duties.false c.if-not-wanted.ensures
-    c.as-slice.result.now c.as-slice.ensures.value c.if-any-in-place.ensures c.in-default.ensures in
+    c.as_slice.result.now c.as_slice.ensures.value c.if-any_in_place.ensures c.in_default.ensures in
     record { answer = e.answer; after = e.after; same = refl }
 
-pub returns-in-err-add : goal.returns-in-err-add
-returns-in-err-add g c =
-    let p = err_from_is_err_and c.from-residual.result c.from-residual.ensures.1 in
+pub returns-in_err-add-in-Some-vector : goal.returns-in_err-add-in-Some-vector
+returns-in_err-add-in-Some-vector g c =
+    let p = err_from_is_err_and c.from_residual.result c.from_residual.ensures.1 in
     let e = entered (g.G.Goal.means c.args.self.now.goal) (state c.args.self.now) c.args.duty c.duties.result c.duties.ensures c.if-duty-duties.false c.if-not-wanted.ensures
-    c.as-slice.result.now c.as-slice.ensures.value c.if-any-in-place.ensures c.in-Some.number c.inputs.result c.in-Some.ensures c.inputs.ensures c.in-Some-vector.cube c.in-Some-vector.ensures.1
-    (told covered_reply c.from-residual.result) (ap (told covered_reply) (p.1 ∙ ap Err p.2) ∙ c.in-err-add.ensures.answer) (state c.add.new.self) c.add.ensures.after in
+    c.as_slice.result.now c.as_slice.ensures.value c.if-any_in_place.ensures c.in-Some.number c.inputs.result c.in-Some.ensures c.inputs.ensures c.in-Some-vector.cube c.in-Some-vector.ensures.1
+    (told covered_reply c.from_residual.result) (ap (told covered_reply) (p.1 ∙ ap Err p.2) ∙ c.in_err-add.ensures.answer) (state c.add.new.self) c.add.ensures.after in
     record { answer = e.0; after = e.1; same = c.add.ensures.same }
 
-pub returns-in-ok-add : goal.returns-in-ok-add
-returns-in-ok-add g c =
+pub returns-in_ok-add-in-Some-vector : goal.returns-in_ok-add-in-Some-vector
+returns-in_ok-add-in-Some-vector g c =
     let e = entered (g.G.Goal.means c.args.self.now.goal) (state c.args.self.now) c.args.duty c.duties.result c.duties.ensures c.if-duty-duties.false c.if-not-wanted.ensures
-    c.as-slice.result.now c.as-slice.ensures.value c.if-any-in-place.ensures c.in-Some.number c.inputs.result c.in-Some.ensures c.inputs.ensures c.in-Some-vector.cube c.in-Some-vector.ensures.1
-    _ c.in-ok-add.ensures.answer (state c.add.new.self) c.add.ensures.after in
+    c.as_slice.result.now c.as_slice.ensures.value c.if-any_in_place.ensures c.in-Some.number c.inputs.result c.in-Some.ensures c.inputs.ensures c.in-Some-vector.cube c.in-Some-vector.ensures.1
+    _ c.in_ok-add.ensures.answer (state c.add.new.self) c.add.ensures.after in
     record { answer = e.0; after = e.1; same = c.add.ensures.same }
