@@ -46,12 +46,12 @@ returns-in_err-add-in-Some-vector g c =
     let p = err_from_is_err_and c.from_residual.result c.from_residual.ensures.1 in
     let e = entered (g.G.Goal.means c.args.self.now.goal) (state c.args.self.now) c.args.duty c.duties.result c.duties.ensures c.if-duty-duties.false c.if-not-wanted.ensures
     c.as_slice.result.now c.as_slice.ensures.value c.if-any_in_place.ensures c.in-Some.number c.inputs.result c.in-Some.ensures c.inputs.ensures c.in-Some-vector.cube c.in-Some-vector.ensures.1
-    (told covered_reply c.from_residual.result) (ap (told covered_reply) (p.1 ∙ ap Err p.2) ∙ c.in_err-add.ensures.answer) (state c.add.new.self) c.add.ensures.after in
+    (told covered_reply c.from_residual.result) (ap (told covered_reply) (p.1 ∙ ap Err p.2) ∙ c.in_err-add-in-Some-vector.ensures.answer) (state c.add.new.self) c.add.ensures.after in
     record { answer = e.0; after = e.1; same = c.add.ensures.same }
 
 pub returns-in_ok-add-in-Some-vector : goal.returns-in_ok-add-in-Some-vector
 returns-in_ok-add-in-Some-vector g c =
     let e = entered (g.G.Goal.means c.args.self.now.goal) (state c.args.self.now) c.args.duty c.duties.result c.duties.ensures c.if-duty-duties.false c.if-not-wanted.ensures
     c.as_slice.result.now c.as_slice.ensures.value c.if-any_in_place.ensures c.in-Some.number c.inputs.result c.in-Some.ensures c.inputs.ensures c.in-Some-vector.cube c.in-Some-vector.ensures.1
-    _ c.in_ok-add.ensures.answer (state c.add.new.self) c.add.ensures.after in
+    _ c.in_ok-add-in-Some-vector.ensures.answer (state c.add.new.self) c.add.ensures.after in
     record { answer = e.0; after = e.1; same = c.add.ensures.same }
