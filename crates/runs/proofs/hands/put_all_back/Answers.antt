@@ -16,13 +16,13 @@ loop-slip-preserved g c =
     let qs = vec_items c.pop.new.self in
     let ps = vec_items c.loop-slip.slips in
     let t : Taken ps p.serial qs (Some p) = subst (λ l. Taken l p.serial qs (Some p)) (sym c.in-Some.ensures.items) (taken_push qs p) in
-    let e = c.put-back.ensures.after in (
+    let e = c.put_back.ensures.after in (
       (v.0.0 ++ (p.serial ∷ []), e ∙ ap (λ s. (put_back s p.serial).after) v.0.1 ∙ sym (put_backs_push (state c.args.sheet.now) v.0.0 p.serial)),
       subst (λ s. Ready s qs) (sym e) (ready_put_back (state c.loop-slip.sheet) ps v.1 qs p p.serial t),
-      c.put-back.ensures.same ∙ v.2,
+      c.put_back.ensures.same ∙ v.2,
     )
 
 pub returns : goal.returns
 returns g c =
-    let e : vec_items c.loop-slip.slips ≡ [] = nil_from_length (vec_items c.loop-slip.slips) (omega (arith, c.loop-slip.slips.ok.0, c.in-default.ensures.cases.0)) in
+    let e : vec_items c.loop-slip.slips ≡ [] = nil_from_length (vec_items c.loop-slip.slips) (omega (arith, c.loop-slip.slips.ok.0, c.in_default.ensures.cases.0)) in
     search rules

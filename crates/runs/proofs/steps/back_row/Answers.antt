@@ -9,7 +9,7 @@ use Rattle.runs.proofs.steps.back_row.Goals as goal
 pub returns-in-Some : goal.returns-in-Some
 returns-in-Some g c =
     let t = c.in-Some.ensures.taken in
-    let w = ready_put_back (state c.args.sheet.now) (vec_items c.args.slips.now) c.requires.ready (vec_items c.take-slip.new.slips) c.in-Some.slip c.args.serial t in
+    let w = ready_put_back (state c.args.sheet.now) (vec_items c.args.slips.now) c.requires.ready (vec_items c.take_slip.new.slips) c.in-Some.slip c.args.serial t in
     search rules
 
 pub returns-in-None : goal.returns-in-None

@@ -10,7 +10,7 @@ pub returns-in-Some : goal.returns-in-Some
 returns-in-Some g c =
     let m = g.G.Goal.means c.args.sheet.now.goal in
     let t = c.in-Some.ensures.taken in
-    let w = ready_exchange (state c.args.sheet.now) (vec_items c.args.slips.now) c.requires.ready (vec_items c.take-slip.new.slips) c.in-Some.slip c.args.serial t m c.args.cube in
+    let w = ready_exchange (state c.args.sheet.now) (vec_items c.args.slips.now) c.requires.ready (vec_items c.take_slip.new.slips) c.in-Some.slip c.args.serial t m c.args.cube in
     search rules
 
 pub returns-in-None : goal.returns-in-None

@@ -7,8 +7,8 @@ use Rattle.runs.proofs.Outs.{outs_few}
 use Rattle.runs.proofs.Readiness.{ready_pull}
 use Rattle.runs.proofs.steps.pull_row.Goals as goal
 
-pub push-reserved-requires : goal.push-reserved-requires
-push-reserved-requires g c =
+pub push_reserved-requires : goal.push_reserved-requires
+push_reserved-requires g c =
     let ps = vec_items c.args.slips.now in
     let p = c.in-Ok.slip in
     let sheet = c.pull.new.self in

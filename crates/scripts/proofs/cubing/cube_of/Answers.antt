@@ -4,5 +4,5 @@ use Rattle.scripts.proofs.cubing.cube_of.Goals as goal
 
 pub returns : goal.returns
 returns c =
-    c.cube-with-2.ensures
-    ∙ lettered_cube c.args.word.now _ _ c.if-word-eq0.false (omega arith) c.if-is-dash.ensures c.if-not-has-letters-only.ensures c.inputs_of.ensures c.inputs-of-2.ensures
+    c.cube_with-2.ensures
+    ∙ lettered_cube c.args.word.now _ _ c.if-word-eq0.false (omega arith) c.if-is_dash.ensures c.if-not-has_letters_only.ensures c.inputs_of.ensures c.inputs_of-2.ensures

@@ -8,14 +8,14 @@ loop-byte-preserved c =
     let w = c.args.word.now in
     let i = c.loop-byte.byte-index in
     c.loop-byte.invariant ∙ at_drop_more letters_only w i 0 c.loop-byte-test.true
-    ∙ ap (λ t. t && letters_only (drop (i + 1) w)) (sym c.if-not-is-letter.ensures)
+    ∙ ap (λ t. t && letters_only (drop (i + 1) w)) (sym c.if-not-is_letter.ensures)
 
-pub returns-then-not-is-letter : goal.returns-then-not-is-letter
-returns-then-not-is-letter c =
+pub returns-then-not-is_letter : goal.returns-then-not-is_letter
+returns-then-not-is_letter c =
     let w = c.args.word.now in
     let i = c.loop-byte.byte-index in
     sym (c.loop-byte.invariant ∙ at_drop_more letters_only w i 0 c.loop-byte-test.true
-    ∙ ap (λ t. t && letters_only (drop (i + 1) w)) (sym c.if-not-is-letter.ensures))
+    ∙ ap (λ t. t && letters_only (drop (i + 1) w)) (sym c.if-not-is_letter.ensures))
 
 pub returns : goal.returns
 returns c = sym (c.loop-byte.invariant ∙ at_drop_all letters_only c.args.word.now c.loop-byte.byte-index c.loop-byte-test.false)

@@ -4,11 +4,11 @@ use Rattle.scripts.proofs.Masking.{small, next_bit, has_letter, has_other}
 use Rattle.scripts.proofs.cubing.inputs_of.Goals as goal
 use Rattle.scripts.proofs.cubing.inputs_of.Goals.{then-byte-letter, else-byte-letter}
 
-pub overflow-add-inputs : goal.overflow-add-inputs
-overflow-add-inputs c = let s = small c.args.letter c.args.word.now c.loop-byte.byte-index (omega arith) in omega arith
+pub overflow_add-inputs : goal.overflow_add-inputs
+overflow_add-inputs c = let s = small c.args.letter c.args.word.now c.loop-byte.byte-index (omega arith) in omega arith
 
-pub overflow-mul-bit : goal.overflow-mul-bit
-overflow-mul-bit c = let s = small c.args.letter c.args.word.now c.loop-byte.byte-index (omega arith) in omega arith
+pub overflow_mul-bit : goal.overflow_mul-bit
+overflow_mul-bit c = let s = small c.args.letter c.args.word.now c.loop-byte.byte-index (omega arith) in omega arith
 
 pub loop-byte-preserved : goal.loop-byte-preserved
 loop-byte-preserved c =
@@ -22,8 +22,8 @@ loop-byte-preserved c =
       ap (λ b. b * 2) c.loop-byte.invariant.1 ∙ next_bit i,
     )
 
-pub overflow-cast-result : goal.overflow-cast-result
-overflow-cast-result c = let s = small c.args.letter c.args.word.now c.loop-byte.byte-index (omega arith) in omega (arith, c.loop-byte.invariant.0)
+pub overflow_cast-result : goal.overflow_cast-result
+overflow_cast-result c = let s = small c.args.letter c.args.word.now c.loop-byte.byte-index (omega arith) in omega (arith, c.loop-byte.invariant.0)
 
 pub returns : goal.returns
 returns c = c.loop-byte.invariant.0 ∙ ap (inputs_of c.args.letter c.args.word.now) (omega arith)

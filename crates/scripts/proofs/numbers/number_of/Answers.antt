@@ -10,16 +10,16 @@ loop-byte-preserved c =
     let i = c.loop-byte.byte-index in (
       c.if-value-ge4294967296.false,
       c.loop-byte.invariant.1 ∙ at_drop_more (reads_from c.loop-byte.value) w i 0 c.loop-byte-test.true
-          ∙ reads_more c.loop-byte.value (get_or w i 0) (drop (i + 1) w) c.if-not-is-digit.ensures,
+          ∙ reads_more c.loop-byte.value (get_or w i 0) (drop (i + 1) w) c.if-not-is_digit.ensures,
     )
 
-pub returns-then-not-is-digit : goal.returns-then-not-is-digit
-returns-then-not-is-digit c =
+pub returns-then-not-is_digit : goal.returns-then-not-is_digit
+returns-then-not-is_digit c =
     let w = c.args.word.now in
     let i = c.loop-byte.byte-index in
     sym (not_empty w c.if-word-eq0.false ∙ c.loop-byte.invariant.1
     ∙ at_drop_more (reads_from c.loop-byte.value) w i 0 c.loop-byte-test.true
-    ∙ no_digit c.loop-byte.value (get_or w i 0) (drop (i + 1) w) c.if-not-is-digit.ensures)
+    ∙ no_digit c.loop-byte.value (get_or w i 0) (drop (i + 1) w) c.if-not-is_digit.ensures)
 
 pub returns-then-value-ge4294967296 : goal.returns-then-value-ge4294967296
 returns-then-value-ge4294967296 c =
@@ -28,7 +28,7 @@ returns-then-value-ge4294967296 c =
     let n = c.loop-byte.value in
     sym (not_empty w c.if-word-eq0.false ∙ c.loop-byte.invariant.1
     ∙ at_drop_more (reads_from n) w i 0 c.loop-byte-test.true
-    ∙ reads_more n (get_or w i 0) (drop (i + 1) w) c.if-not-is-digit.ensures
+    ∙ reads_more n (get_or w i 0) (drop (i + 1) w) c.if-not-is_digit.ensures
     ∙ too_large (n * 10 + (get_or w i 0 - 48)) (drop (i + 1) w) c.if-value-ge4294967296.true)
 
 pub returns : goal.returns
