@@ -1,19 +1,17 @@
 -- Records in which nothing is wrong make up a well-formed card, whose file they are.
-use Rattle.std.proofs.Common.{◌≡◌, ℕ, zero, suc, ◌+◌, ◌-◌, ◌*◌, ◌<◌, ◌≤◌, min, Bool, true, false, cond, ◌&&◌, eqb, ltb, leb, ◌⊎◌, List, [], ◌∷◌, ◌++◌, length, get_or, take, drop, replicate, Some, None, Option, sym, refl, ap, ◌∙◌, subst, inl, inr, ⊎_elim, arith}
+use Rattle.std.proofs.Common.{◌≡◌, ℕ, zero, suc, ◌+◌, ◌-◌, ◌*◌, ◌<◌, ◌≤◌, Bool, true, false, cond, eqb, ◌⊎◌, List, ◌∷◌, ◌++◌, length, get_or, take, drop, replicate, Some, None, Option, sym, refl, ap, ◌∙◌, subst, inl, inr, ⊎_elim, arith}
 use Rattle.std.proofs.lemmas.Bool.{and_parts, eqb-true, ltb-true, leb-true, cases_lt}
 use Rattle.std.proofs.lemmas.List.{length-take, length-drop, get_or-take, get_or-drop, get_or_past, take-append-drop, take-take, drop-take, length_push}
 use Rattle.boards.specs.declared.parts.Kind.{Kind}
 use Rattle.boards.specs.declared.parts.Kind.TheVariants.{And, Or, Nand, Nor, Xor, Xnor, Not, Buf}
 use Rattle.boards.specs.declared.parts.Class.{Class}
 use Rattle.boards.specs.declared.parts.Class.TheVariants.{Input, Gate as GateRecord, Output, Fault as FaultRecord}
-use Rattle.boards.specs.declared.parts.Fault.{Fault}
 use Rattle.boards.specs.declared.parts.Seen.{Seen}
-use Rattle.boards.specs.Cards.{Card, Gate, card, lines, Sound, pins_fit}
-use Rattle.boards.specs.Boards.{no_card}
-use Rattle.boards.specs.Files.{low, high, pin_bytes, code, input_record, gate_record, output_record, fault_record, file}
+use Rattle.boards.specs.Cards.{Card, Gate, lines, Sound, pins_fit}
+use Rattle.boards.specs.Files.{low, high, pin_bytes, code, file}
 use Rattle.boards.specs.Records.{word, words, zeros, class, kind_of, trouble, counts, counted, one_more}
 use Rattle.boards.specs.Reading.{record_at}
-use Rattle.boards.specs.Scanning.{kind_or, fault_in, with_item, with_record, with_gate, so_far, Good}
+use Rattle.boards.specs.Scanning.{kind_or, fault_in, with_item, with_record, so_far, Good}
 use Rattle.boards.proofs.Packing.{Bytes, low_word, high_word, zeros_all, four_bytes, padded, below_each}
 use Rattle.boards.specs.Pins.{few_pins}
 use Rattle.boards.proofs.Passing.{Passed, of_class, with_kind}

@@ -1,5 +1,5 @@
 -- Bytes are accepted exactly when they are the file of a well-formed card, and they are the file of one card alone.
-use Rattle.std.proofs.Common.{◌≡◌, ℕ, ◌+◌, ◌*◌, ◌/◌, ◌%◌, ◌<◌, ◌≤◌, min, List, ◌++◌, length, take, drop, Some, None, sym, refl, ap, ◌∙◌, subst, arith}
+use Rattle.std.proofs.Common.{◌≡◌, ℕ, ◌*◌, ◌%◌, List, length, take, drop, Some, None, sym, ap, ◌∙◌, subst, arith}
 use Rattle.std.proofs.lemmas.List.{take_all, length-take, take-append-drop}
 use Rattle.boards.specs.declared.refusal.Unread.{Unread}
 use Rattle.boards.specs.declared.refusal.Unread.TheVariants.{NotWhole, Bad}

@@ -1,9 +1,9 @@
 -- The file of a card with one item more is its file with one record more, where no record of a later class stands in it.
-use Rattle.std.proofs.Common.{◌≡◌, ℕ, ◌+◌, ◌*◌, List, [], ◌∷◌, ◌++◌, length, replicate, sym, refl, ap, ◌∙◌, subst, append_assoc, arith}
+use Rattle.std.proofs.Common.{◌≡◌, ℕ, ◌+◌, List, [], ◌∷◌, ◌++◌, length, replicate, sym, ap, ◌∙◌, append_assoc}
 use Rattle.std.specs.List.{flat_map}
-use Rattle.std.proofs.lemmas.List.{append-nil, flat_map_more, replicate_more, nil_from_length, length-append}
+use Rattle.std.proofs.lemmas.List.{append-nil, flat_map_more, replicate_more, nil_from_length}
 use Rattle.boards.specs.declared.parts.Fault.{Fault}
-use Rattle.boards.specs.Cards.{Card, Gate, card}
+use Rattle.boards.specs.Cards.{Gate, card}
 use Rattle.boards.specs.Files.{input_record, gate_record, output_record, fault_record, file}
 
 -- the four parts of a file

@@ -1,9 +1,9 @@
 -- A well-formed card stays well formed with one input, gate, output or fault more that passed the tests.
-use Rattle.std.proofs.Common.{◌≡◌, ℕ, ◌+◌, ◌<◌, ◌≤◌, true, List, [], ◌∷◌, ◌++◌, length, get_or, arith}
+use Rattle.std.proofs.Common.{◌≡◌, ℕ, ◌+◌, ◌<◌, true, [], ◌∷◌, ◌++◌, length, get_or, arith}
 use Rattle.std.proofs.lemmas.List.{length_push}
 use Rattle.cubes.proofs.Filling.{pushed}
 use Rattle.boards.specs.declared.parts.Fault.{Fault}
-use Rattle.boards.specs.Cards.{Card, Gate, card, lines, no_gate, no_fault, pins_fit, PinCounts, Earlier, OutputsExist, FaultsExist, Sound}
+use Rattle.boards.specs.Cards.{Card, Gate, card, lines, no_gate, no_fault, pins_fit, Sound}
 
 module _ (c : Card) (s : Sound c) where
   pub input_more : c.inputs < 16 → length c.gates ≡ 0 → Sound (card (c.inputs + 1) c.gates c.outputs c.faults)

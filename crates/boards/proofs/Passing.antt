@@ -1,12 +1,12 @@
 -- A record that passes every test, and what each test then says.
-use Rattle.std.proofs.Common.{◌≡◌, ℕ, Bool, true, false, cond, List, [], ◌∷◌, get_or, drop, Some, None, Option, sym, refl, ap, ◌∙◌, subst, arith}
+use Rattle.std.proofs.Common.{◌≡◌, ℕ, Bool, true, false, List, get_or, drop, Some, None, Option, sym, refl, ap, ◌∙◌, arith}
 use Rattle.std.proofs.lemmas.Bool.{false≢true}
 use Rattle.boards.specs.declared.parts.Class.{Class}
 use Rattle.boards.specs.declared.parts.Kind.{Kind}
 use Rattle.boards.specs.declared.parts.Seen.{Seen}
 use Rattle.boards.specs.declared.refusal.Trouble.{Trouble}
 use Rattle.boards.specs.Cards.{pins_fit}
-use Rattle.boards.specs.Records.{word, class, kind_of, gate_fits, in_order, has_room, field_fits, lines_exist, rest_zero, unless, trouble_in, trouble_of, trouble}
+use Rattle.boards.specs.Records.{word, class, gate_fits, in_order, has_room, field_fits, lines_exist, rest_zero, unless, trouble_in, trouble_of, trouble}
 
 pub record Passed (k : Class) (s : Seen) (field word : ℕ) (rest : List ℕ) : Type 0 where
   pub ordered : in_order s k ≡ true

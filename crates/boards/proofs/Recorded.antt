@@ -1,20 +1,17 @@
 -- In the file of a well-formed card nothing is wrong with any record, and together they make up just that card.
-use Rattle.std.proofs.Common.{◌≡◌, ℕ, zero, suc, ◌+◌, ◌-◌, ◌*◌, ◌<◌, ◌≤◌, min, Bool, true, false, cond, ◌&&◌, eqb, ltb, leb, List, [], ◌∷◌, ◌++◌, length, get_or, take, drop, replicate, Some, None, Option, sym, refl, ap, ◌∙◌, subst, ⊎_elim, append_assoc, add-one, arith}
-use Rattle.std.proofs.lemmas.Bool.{cases_lt, eq-eqb, lt-ltb, le-leb}
-use Rattle.std.proofs.lemmas.List.{length-append, length-drop, length-replicate, append-nil, drop-append-le, take-append-le, drop_at, take_all, get_or_at, get_or_append_left, length_push}
-use Rattle.boards.specs.declared.parts.Class.{Class}
+use Rattle.std.proofs.Common.{◌≡◌, ℕ, zero, suc, ◌+◌, ◌-◌, ◌*◌, ◌<◌, ◌≤◌, Bool, true, false, cond, eqb, leb, List, [], ◌∷◌, ◌++◌, length, get_or, take, drop, replicate, None, sym, refl, ap, ◌∙◌, subst, ⊎_elim, append_assoc, add-one, arith}
+use Rattle.std.proofs.lemmas.Bool.{cases_lt, lt-ltb}
+use Rattle.std.proofs.lemmas.List.{length-append, length-drop, length-replicate, append-nil, drop-append-le, take-append-le, drop_at, take_all, get_or_at}
 use Rattle.boards.specs.declared.parts.Class.TheVariants.{Input, Gate as GateRecord, Output, Fault as FaultRecord}
 use Rattle.boards.specs.declared.parts.Fault.{Fault}
-use Rattle.boards.specs.declared.parts.Seen.{Seen}
-use Rattle.boards.specs.Cards.{Card, Gate, card, lines, no_gate, no_fault, Sound, pins_fit}
-use Rattle.boards.specs.Boards.{no_card}
+use Rattle.boards.specs.Cards.{Card, Gate, card, no_gate, no_fault, Sound, pins_fit}
 use Rattle.boards.specs.Files.{low, high, pin_bytes, code, input_record, gate_record, output_record, fault_record, file}
-use Rattle.boards.specs.Records.{word, words, zeros, all_below, kind_of, gate_fits, trouble, counts}
+use Rattle.boards.specs.Records.{word, words, zeros, all_below, gate_fits, trouble, counts}
 use Rattle.boards.specs.Reading.{record_at}
 use Rattle.boards.specs.Scanning.{kind_or, with_record, with_gate, so_far, Good}
-use Rattle.boards.proofs.Packing.{word_low, all_zeros, length_pin_bytes, pins_back, zeros_after, each_below, kind_back}
+use Rattle.boards.proofs.Packing.{word_low, length_pin_bytes, pins_back, zeros_after, each_below, kind_back}
 use Rattle.boards.specs.Pins.{few_pins}
-use Rattle.boards.proofs.Passing.{Passed, none_wrong}
+use Rattle.boards.proofs.Passing.{none_wrong}
 use Rattle.boards.proofs.Filed.{input_end, gate_end, output_end, fault_end}
 
 -- n good records that make up a card

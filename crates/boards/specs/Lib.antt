@@ -7,6 +7,7 @@ pub mod Records
 pub mod Reading
 pub mod Scanning
 pub mod Refusing
+-- theorems, on which the law of the impls rests
 pub mod Laws
 pub mod Related
 pub mod Pins

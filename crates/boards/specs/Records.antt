@@ -1,15 +1,13 @@
 -- One record of a board file: what it adds to a card, and the tests that it has to pass, in their order.
-use Rattle.std.specs.Prelude.{◌≡◌, ℕ, ◌+◌, ◌*◌, Bool, true, false, cond, ◌&&◌, List, [], ◌∷◌, ◌++◌, length, take, drop, Some, None, Option, ◌==◌, nat_le, nat_lt, slice_index}
+use Rattle.std.specs.Prelude.{ℕ, ◌+◌, ◌*◌, Bool, true, false, cond, ◌&&◌, List, [], ◌∷◌, length, take, drop, Some, None, Option, ◌==◌, nat_le, nat_lt, slice_index}
 use Rattle.boards.specs.declared.parts.Kind.{Kind}
 use Rattle.boards.specs.declared.parts.Kind.TheVariants.{And, Or, Nand, Nor, Xor, Xnor, Not, Buf}
-use Rattle.boards.specs.declared.parts.Fault.{Fault}
 use Rattle.boards.specs.declared.parts.Class.{Class}
 use Rattle.boards.specs.declared.parts.Class.TheVariants.{Input, Gate as GateRecord, Output, Fault as FaultRecord}
 use Rattle.boards.specs.declared.parts.Seen.{Seen}
 use Rattle.boards.specs.declared.refusal.Trouble.{Trouble}
 use Rattle.boards.specs.declared.refusal.Trouble.TheVariants.{Misplaced, OneTooMany, BadField, BadLine, NotZero}
-use Rattle.boards.specs.Values.{single}
-use Rattle.boards.specs.Cards.{Card, Gate, card, pins_fit}
+use Rattle.boards.specs.Cards.{Card, pins_fit}
 
 -- a field of two bytes, the low byte first
 abbrev pub word : ℕ → ℕ → ℕ

@@ -2,7 +2,7 @@
 ghost use Rattle.std.specs.Prelude.{◌≡◌, ℕ, ◌+◌, ◌*◌, ◌<◌, ◌≤◌, true, [], ◌∷◌, ◌++◌, length, take, Some, None};
 ghost use Rattle.boards.specs.Cards.{card, lines, pins_fit};
 ghost use Rattle.boards.specs.Boards.{card_of, no_card};
-ghost use Rattle.boards.specs.Records.{words, all_below, trouble as trouble-with, counts};
+ghost use Rattle.boards.specs.Records.{words, all_below, trouble as trouble_with, counts};
 ghost use Rattle.boards.specs.Scanning.{with_record, with_gate, Checked};
 ghost use Rattle.boards.specs.Reading.{Read};
 
@@ -100,7 +100,7 @@ impl Board {
     // Adds what a good record describes.
     fn add(&mut self, bytes: &[u8])
         requires sixteen { length bytes.now ≡ 16 }
-        requires good { trouble-with (counts (card_of self.old)) bytes.now ≡ None }
+        requires good { trouble_with (counts (card_of self.old)) bytes.now ≡ None }
         ensures { card_of self.new ≡ with_record (card_of self.old) bytes.now }
     {
         let [mark, field, lo, hi, rest @ ..] = bytes else {

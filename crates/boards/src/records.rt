@@ -1,15 +1,15 @@
 // One record of a board file: 16 bytes, taken apart and tested. Reading asks here, once for each record.
 ghost use Rattle.std.specs.Prelude.{◌≡◌, ℕ, ◌+◌, ◌*◌, ◌<◌, ◌≤◌, true, List, length, take, drop};
 ghost use Rattle.boards.specs.Cards.{pins_fit};
-ghost use Rattle.boards.specs.Values.{single as one-pin};
-ghost use Rattle.boards.specs.Records.{word as word-from, words, zeros, all_below, class, kind_of, gate_fits, in_order, has_room, field_fits, lines_exist, rest_zero, trouble_in, trouble as trouble-with, counted};
+ghost use Rattle.boards.specs.Values.{single as one_pin};
+ghost use Rattle.boards.specs.Records.{word as word_from, words, zeros, all_below, class, kind_of, gate_fits, in_order, has_room, field_fits, lines_exist, rest_zero, trouble_in, trouble as trouble_with, counted};
 
 use crate::parts::{Class, Kind, Seen};
 use crate::refusal::Trouble;
 
 // A field of two bytes, the low byte first.
 pub(crate) fn word_of(lo: u8, hi: u8) -> u16
-    ensures { result ≡ word-from lo hi }
+    ensures { result ≡ word_from lo hi }
 {
     lo as u16 + 256 * hi as u16
 }
@@ -176,7 +176,7 @@ fn trouble_in(class: Class, seen: Seen, field: u8, word: u16, rest: &[u8]) -> Op
 pub(crate) fn trouble(seen: Seen, bytes: &[u8]) -> Option<Trouble>
     requires few { seen.inputs + seen.gates < 1000 }
     requires sixteen { length bytes.now ≡ 16 }
-    ensures { result ≡ trouble-with seen bytes.now }
+    ensures { result ≡ trouble_with seen bytes.now }
 {
     let [mark, field, lo, hi, rest @ ..] = bytes else {
         return Some(Trouble::Misplaced);

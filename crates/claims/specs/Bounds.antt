@@ -1,5 +1,5 @@
 -- When a claim is accepted, and what an accepted claim says.
-use Rattle.std.specs.Prelude.{◌≡◌, ℕ, ◌<◌, ◌≤◌, Bool, true, false, ◌||◌, List, [], ◌∷◌, length, Ok, Err, Result, ◌≢◌, slice_index}
+use Rattle.std.specs.Prelude.{◌≡◌, ℕ, ◌<◌, ◌≤◌, Bool, true, false, ◌||◌, List, [], ◌∷◌, length, Ok, Result, ◌≢◌, slice_index}
 use Rattle.cubes.specs.declared.cube.Cube.{Cube}
 use Rattle.goals.specs.Goals.{Meaning, vectors, covered_at, Coverable}
 use Rattle.claims.specs.declared.refusal.ClaimRefusal.{ClaimRefusal}

@@ -1,10 +1,9 @@
 -- The bits of masks: of a conjunction, a disjunction, a difference, a mask made by a test, a number in blocks, the lowest
 -- bit; what two masks share; and how many vectors there are.
-use Rattle.std.proofs.Common.{◌≡◌, ℕ, zero, suc, ◌+◌, ◌-◌, ◌*◌, ◌/◌, ◌%◌, ◌^◌, ◌<◌, ◌≤◌, min, max, Bool, true, false, cond, not, eqb, ◌⊎◌, sym, refl, ap, ◌∙◌, subst, inl, inr, ⊎_elim, add-zero, mul_assoc, add_comm, one-mul, pow-suc, div-one, one-add, arith, pow_pos, pow_mono, pow-add, shr-shr}
-use native.Mathlib.Nat.{zero-div, zero-mod, div-eq_of_lt, add-mul-div_right, add-div_right}
+use Rattle.std.proofs.Common.{◌≡◌, ℕ, zero, suc, ◌+◌, ◌-◌, ◌*◌, ◌/◌, ◌%◌, ◌^◌, ◌<◌, ◌≤◌, min, max, Bool, true, false, cond, sym, refl, ap, ◌∙◌, ⊎_elim, add-zero, mul_assoc, add_comm, one-mul, pow-suc, div-one, one-add, arith, pow_pos, pow_mono, pow-add, shr-shr}
+use native.Mathlib.Nat.{zero-div, div-eq_of_lt, add-mul-div_right, add-div_right}
 use lib.Bits.{bit_and, bit_or, bit_xor, differ, and_le_l, and_mask, and_step, or_step, xor_step, and_shr, or_shr, xor_shr, or_shifted_r}
 use lib.Count.{count_trailing_zeros, under}
-use lib.Pow.{pow-lt}
 use Rattle.std.proofs.lemmas.Bool.{cases_eq, cases_lt, ne_eqb, eqb-false, eq-eqb, not-true, not_from_false, not_from_true, both_ways}
 use Rattle.std.proofs.lemmas.Nat.{one_shl, shr_split, shr_high}
 use Rattle.cubes.specs.Masks.{bit, mask_of, share}

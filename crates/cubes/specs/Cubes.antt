@@ -1,5 +1,5 @@
 -- Cubes, vectors, refinement, the common refinement of two cubes, and letters.
-use Rattle.std.specs.Prelude.{◌≡◌, ℕ, zero, suc, ◌+◌, ◌-◌, ◌*◌, ◌/◌, ◌%◌, ◌^◌, ◌<◌, ◌≤◌, min, Bool, true, false, cond, ◌||◌, List, map, Some, None, Ok, Err, Option, Result, ◌==◌, bit_and, bit_or, refl}
+use Rattle.std.specs.Prelude.{◌≡◌, ℕ, zero, suc, ◌-◌, ◌*◌, ◌/◌, ◌%◌, ◌^◌, ◌<◌, ◌≤◌, min, Bool, true, false, cond, ◌||◌, List, map, Some, None, Ok, Err, Option, Result, ◌==◌, bit_and, bit_or, refl}
 use Rattle.std.proofs.Common.{◌∙◌, mod-lt, pow-suc, arith, eqb-true, pow_pos}
 use Rattle.std.specs.Int.Bits.{and_step}
 use Rattle.std.specs.List.{range_with_len}

@@ -1,5 +1,5 @@
 -- Masks: sets of places, one bit each. Used for the inputs of a cube and for the outputs of an answer.
-use Rattle.std.specs.Prelude.{◌≡◌, ℕ, zero, suc, ◌+◌, ◌/◌, ◌%◌, ◌^◌, Bool, cond, not, ◌==◌, bit_and}
+use Rattle.std.specs.Prelude.{ℕ, zero, suc, ◌+◌, ◌/◌, ◌%◌, ◌^◌, Bool, cond, not, ◌==◌, bit_and}
 
 -- the most inputs that a card can have, and the width of a mask of inputs
 abbrev pub most_inputs : ℕ

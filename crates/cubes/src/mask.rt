@@ -1,5 +1,5 @@
 // The width of a mask, and so the number of inputs that a card can have, stands here and in
-// specs/Masks.antt (`most_inputs`), and nowhere else.
+// specs/Masks.antt (`most_inputs`). Besides, only the words of 64 vectors (walk.rt, wide.rt) count 16 of them.
 
 // One bit for each input; input i is bit i.
 pub type Mask = u16;

@@ -1,5 +1,5 @@
 // The walk through all vectors of some inputs, 64 at a time, and the search for the smallest that passes. Which vectors a
-// search looks at, and in which order, is known here alone.
+// search by words looks at, and in which order, is known here alone.
 ghost use Rattle.std.specs.Prelude.{◌≡◌, ℕ, ◌+◌, ◌*◌, ◌/◌, ◌^◌, ◌<◌, ◌≤◌, min, Bool, nat_lt, slice_index};
 ghost use Rattle.cubes.specs.Masks.{most_inputs, has};
 ghost use Rattle.cubes.specs.Searching.{Sought, First};

@@ -1,12 +1,11 @@
 -- Machines that no vector tells apart: a machine and itself, and whatever is equivalent to an equivalent one.
-use Rattle.std.proofs.Common.{◌≡◌, ℕ, ◌^◌, ◌<◌, ◌≤◌, Bool, true, false, ◌||◌, ◌⊎◌, sym, refl, ap, ◌∙◌, subst, inl, inr, ⊎_elim, arith}
+use Rattle.std.proofs.Common.{◌≡◌, ℕ, ◌<◌, ◌≤◌, Bool, true, false, ◌⊎◌, inl, inr, ⊎_elim, arith}
 use Rattle.std.proofs.lemmas.Bool.{cases_Bool, cases_lt, or_cases, or_left, or_right, both_ways}
-use Rattle.cubes.specs.Masks.{bit, share}
+use Rattle.cubes.specs.Masks.{bit}
 use Rattle.cubes.proofs.Bits.{share_at, share_from}
-use Rattle.cubes.specs.declared.cube.Cube.{Cube}
 use Rattle.cubes.specs.Cubes.{vector}
-use Rattle.devices.specs.Devices.{told_apart, Known, Meaning, Lawful}
-use Rattle.devices.specs.Deciding.{tells, vectors, EquivalentMachines, Label}
+use Rattle.devices.specs.Devices.{told_apart, Meaning, Lawful}
+use Rattle.devices.specs.Deciding.{vectors, EquivalentMachines, Label}
 use Rattle.devices.specs.declared.answer.Answer.{Answer}
 
 -- output o is 0 in one answer and 1 in the other

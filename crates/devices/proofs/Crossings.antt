@@ -1,12 +1,12 @@
 -- Two wide answers that oppose each other somewhere, and the two answers that they stand for.
-use Rattle.std.proofs.Common.{◌≡◌, ℕ, zero, suc, ◌+◌, ◌<◌, ◌≤◌, ◌⊎◌, Bool, true, false, ◌&&◌, ◌||◌, nat_eq, slice_index, refl, sym, ap, ◌∙◌, subst, inl, inr, ⊎_elim, arith}
-use Rattle.std.proofs.lemmas.Bool.{cases_Bool, cases_lt, or_cases, or_left, or_right, and_parts, and_from, both_ways, eqb-true}
+use Rattle.std.proofs.Common.{◌≡◌, ℕ, zero, suc, ◌<◌, ◌≤◌, Bool, true, false, ◌&&◌, ◌||◌, nat_eq, slice_index, refl, sym, ap, ◌∙◌, subst, inl, inr, ⊎_elim, arith}
+use Rattle.std.proofs.lemmas.Bool.{cases_lt, or_cases, or_left, or_right, and_parts, and_from, both_ways, eqb-true}
 use Rattle.cubes.specs.Masks.{bit, has}
 use Rattle.devices.specs.Devices.{told_apart, Known}
 use Rattle.devices.specs.Widely.{Column, opposed}
 use Rattle.devices.specs.declared.answer.Answer.{Answer}
 use Rattle.devices.specs.declared.wide.WideAnswer.{WideAnswer}
-use Rattle.devices.proofs.Apart.{apart_at, apart_from, Opposed}
+use Rattle.devices.proofs.Apart.{apart_at, apart_from}
 
 -- at the k-th vector, output o is 0 in one and 1 in the other
 abbrev opposed_here : WideAnswer → WideAnswer → ℕ → ℕ → Bool
@@ -51,22 +51,23 @@ told_by_words v w a b k vz vo wz wo few = alike _ _ there back
         let r = opposed_at v w 32 k t in
         let o = r.0 in
         apart_from a b o (⊎_elim
-          (λ (h : (has (slice_index v.zeros o) k && has (slice_index w.ones o) k) ≡ true).
-            let p = and_parts (has (slice_index v.zeros o) k) (has (slice_index w.ones o) k) h in
-            inl (placed a.zeros o (sym (vz o r.1) ∙ p.0), placed b.ones o (sym (wo o r.1) ∙ p.1)))
-          (λ (h : (has (slice_index v.ones o) k && has (slice_index w.zeros o) k) ≡ true).
-            let p = and_parts (has (slice_index v.ones o) k) (has (slice_index w.zeros o) k) h in
-            inr (placed a.ones o (sym (vo o r.1) ∙ p.0), placed b.zeros o (sym (wz o r.1) ∙ p.1)))
-          (or_cases (has (slice_index v.zeros o) k && has (slice_index w.ones o) k) (has (slice_index v.ones o) k && has (slice_index w.zeros o) k) r.2))
+        (λ (h : (has (slice_index v.zeros o) k && has (slice_index w.ones o) k) ≡ true).
+        let p = and_parts (has (slice_index v.zeros o) k) (has (slice_index w.ones o) k) h in
+        inl (placed a.zeros o (sym (vz o r.1) ∙ p.0), placed b.ones o (sym (wo o r.1) ∙ p.1)))
+        (λ (h : (has (slice_index v.ones o) k && has (slice_index w.zeros o) k) ≡ true).
+        let p = and_parts (has (slice_index v.ones o) k) (has (slice_index w.zeros o) k) h in
+        inr (placed a.ones o (sym (vo o r.1) ∙ p.0), placed b.zeros o (sym (wz o r.1) ∙ p.1)))
+        (or_cases (has (slice_index v.zeros o) k && has (slice_index w.ones o) k) (has (slice_index v.ones o) k && has (slice_index w.zeros o) k) r.2))
+
     back : told_apart a b ≡ true → opposed v w 32 k ≡ true
     back t =
         let r = apart_at a b t in
         let o = r.0 in
         ⊎_elim
         (λ (p : (bit a.zeros o ≡ 1) × (bit b.ones o ≡ 1)).
-          let l : o < 32 = few o (inl p.0) in
-          opposed_from v w 32 k o l (or_left _ _ (and_from _ _ (vz o l ∙ taken a.zeros o p.0) (wo o l ∙ taken b.ones o p.1))))
+        let l : o < 32 = few o (inl p.0) in
+        opposed_from v w 32 k o l (or_left _ _ (and_from _ _ (vz o l ∙ taken a.zeros o p.0) (wo o l ∙ taken b.ones o p.1))))
         (λ (p : (bit a.ones o ≡ 1) × (bit b.zeros o ≡ 1)).
-          let l : o < 32 = few o (inr p.0) in
-          opposed_from v w 32 k o l (or_right _ _ (and_from _ _ (vo o l ∙ taken a.ones o p.0) (wz o l ∙ taken b.zeros o p.1))))
+        let l : o < 32 = few o (inr p.0) in
+        opposed_from v w 32 k o l (or_right _ _ (and_from _ _ (vo o l ∙ taken a.ones o p.0) (wz o l ∙ taken b.zeros o p.1))))
         r.1

@@ -53,9 +53,9 @@ column_lifted before after k mask f low is here old q l o h =
     let b = bit mask o in
     ap (λ x. has x q) (is o h)
     ∙ ⊎_elim
-      (λ (lt : q < k). ap (λ x. nat_eq x 1) (kept_below w b k q lt) ∙ old q lt o h)
-      (λ (ge : k ≤ q).
-        let s : k ≡ q = omega arith in
-        subst (λ (j : ℕ). has (w + b * 2 ^ k) j ≡ has (f j) o) s
-          (ap (λ x. nat_eq x 1) (put_on_top w b k (low o h) (bit_two mask o)) ∙ ap (λ m. has m o) here))
-      (cases_lt q k)
+    (λ (lt : q < k). ap (λ x. nat_eq x 1) (kept_below w b k q lt) ∙ old q lt o h)
+    (λ (ge : k ≤ q).
+    let s : k ≡ q = omega arith in
+    subst (λ (j : ℕ). has (w + b * 2 ^ k) j ≡ has (f j) o) s
+    (ap (λ x. nat_eq x 1) (put_on_top w b k (low o h) (bit_two mask o)) ∙ ap (λ m. has m o) here))
+    (cases_lt q k)

@@ -1,11 +1,10 @@
 -- A masked device keeps the laws of the device below it.
-use Rattle.std.specs.Prelude.{◌≡◌, ℕ, ◌^◌, ◌<◌, ◌≤◌, min, ◌⊎◌}
-use Rattle.std.proofs.Common.{ap, ◌∙◌, sym, inl, inr, ⊎_elim, arith}
+use Rattle.std.specs.Prelude.{◌≡◌, ℕ}
+use Rattle.std.proofs.Common.{ap, inl, inr, ⊎_elim, arith}
 use Rattle.std.specs.Int.Bits.{bit_and}
 use Rattle.cubes.specs.Masks.{bit}
 use Rattle.cubes.proofs.Bits.{bit_of_and}
 use Rattle.cubes.specs.Cubes.{vector}
-use Rattle.cubes.specs.declared.cube.Cube.{Cube}
 use Rattle.devices.specs.Devices.{Meaning, Lawful, Known}
 use Rattle.devices.specs.Masking.{kept, masked}
 use Rattle.devices.specs.declared.answer.Answer.{Answer}

@@ -29,7 +29,7 @@ pub trait Device {
         ensures { result ≡ (means self.now).answer machine cube };
 
     // The answers of one machine to the 64 vectors of input words. A device of a new kind need not answer this; where it can
-    // be answered faster than vector by vector, it should, since every search asks it.
+    // be answered faster than vector by vector, it should, since the search by words asks it.
     fn answers(&self, machine: u16, words: &InputWords) -> WideAnswer
         ensures { Answers (means self.now) machine words.now result }
     {

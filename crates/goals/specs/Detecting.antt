@@ -1,5 +1,5 @@
 -- Detection: duty d is covered by what tells the good card from machine d + 1; all duties are wanted.
-use Rattle.std.specs.Prelude.{ℕ, ◌+◌, ◌-◌, ◌&&◌, nat_lt}
+use Rattle.std.specs.Prelude.{◌+◌, ◌-◌, ◌&&◌, nat_lt}
 use Rattle.devices.specs.Devices as device
 use Rattle.devices.specs.Devices.{told_apart}
 use Rattle.goals.specs.Goals.{Meaning}

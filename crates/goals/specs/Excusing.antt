@@ -1,5 +1,5 @@
 -- Excused: a goal some of whose duties are no longer wanted; nothing else of it changes.
-use Rattle.std.specs.Prelude.{◌≡◌, ℕ, ◌<◌, ◌≤◌, Bool, true, false, not, ◌&&◌, ◌⊎◌, List, [], ◌∷◌, ◌++◌, length, Ok, Err, Result}
+use Rattle.std.specs.Prelude.{◌≡◌, ℕ, ◌<◌, ◌≤◌, true, false, not, ◌&&◌, ◌⊎◌, List, [], ◌∷◌, ◌++◌, length, Ok, Err, Result}
 use Rattle.goals.specs.Goals.{Meaning}
 use Rattle.goals.specs.Naming.{names}
 use Rattle.goals.specs.declared.refusal.NotExcused.{NotExcused}

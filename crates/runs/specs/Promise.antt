@@ -1,5 +1,5 @@
 -- THE PROMISE OVER WHOLE RUNS. It ranges over every goal that keeps the meaning and the law of goals.
-use Rattle.std.specs.Prelude.{◌≡◌, ℕ, ◌≤◌, Bool, true, false, cond, List, [], ◌∷◌, ◌++◌, map, length, Ok, Err, Result}
+use Rattle.std.specs.Prelude.{◌≡◌, ℕ, ◌≤◌, cond, List, [], ◌∷◌, ◌++◌, map, length, Ok, Result}
 use Rattle.std.specs.List.{range_with_len}
 use Rattle.cubes.specs.declared.cube.Cube.{Cube}
 use Rattle.goals.specs.Goals.{Meaning}

@@ -1,6 +1,5 @@
 -- What a line asks whose first word is a verb.
-use Rattle.std.proofs.Common.{◌≡◌, ℕ, true, false, cond, List, [], length, get_or, Some, None, Option, sym, ap, ◌∙◌}
-use Rattle.scripts.specs.declared.script.Line.{Line}
+use Rattle.std.proofs.Common.{◌≡◌, ℕ, true, false, cond, List, [], length, get_or, Some, None, sym, ap, ◌∙◌}
 use Rattle.scripts.specs.declared.script.Line.TheVariants as line
 use Rattle.scripts.specs.declared.script.Verb.{Verb}
 use Rattle.scripts.specs.Lines.{passed_over, verb_of, takes, asks, verb_asks, line_of}

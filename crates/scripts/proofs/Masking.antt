@@ -1,6 +1,5 @@
 -- One more letter of a cube.
-use Rattle.std.proofs.Common.{◌≡◌, ℕ, suc, ◌+◌, ◌*◌, ◌^◌, ◌<◌, ◌≤◌, Bool, true, false, cond, ◌||◌, eqb, ltb, List, [], ◌∷◌, length, get_or, None, sym, refl, ap, ◌∙◌, pow-suc, add-one, arith, pow_mono, le-ltb, eq-eqb, ne_eqb}
-use Rattle.cubes.specs.Masks.{mask_of}
+use Rattle.std.proofs.Common.{◌≡◌, ℕ, ◌+◌, ◌*◌, ◌^◌, ◌<◌, ◌≤◌, true, false, cond, ◌||◌, eqb, ltb, List, length, get_or, None, sym, ap, ◌∙◌, pow-suc, add-one, arith, pow_mono, le-ltb, eq-eqb, ne_eqb}
 use Rattle.cubes.proofs.Bits.{mask_of_lt}
 use Rattle.cubes.specs.Cubes.{of_masks}
 use Rattle.scripts.specs.Cubing.{letters_only, inputs_of, lettered, dash, cube_of}

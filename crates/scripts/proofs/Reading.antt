@@ -1,5 +1,5 @@
 -- One more byte of a numeral.
-use Rattle.std.proofs.Common.{◌≡◌, ℕ, ◌+◌, ◌-◌, ◌*◌, ◌<◌, ◌≤◌, Bool, true, false, cond, ◌&&◌, eqb, ltb, leb, List, [], ◌∷◌, length, Some, None, Option, sym, refl, ap, ◌∙◌, arith, le-ltb, lt-ltb, ne_eqb, leb-true}
+use Rattle.std.proofs.Common.{◌≡◌, ℕ, ◌+◌, ◌-◌, ◌*◌, ◌<◌, ◌≤◌, Bool, true, false, cond, ◌&&◌, ltb, leb, List, [], ◌∷◌, length, Some, None, sym, refl, ap, ◌∙◌, arith, le-ltb, lt-ltb, ne_eqb, leb-true}
 use Rattle.scripts.specs.Numerals.{digit, numeral, value_from, limit, reads_from, number_of}
 
 and_first : (a b : Bool) → (a && b) ≡ true → a ≡ true

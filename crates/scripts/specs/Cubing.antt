@@ -1,5 +1,5 @@
 -- Which cube a word of letters is.
-use Rattle.std.specs.Prelude.{◌≡◌, ℕ, Bool, true, false, cond, not, ◌&&◌, ◌||◌, List, [], ◌∷◌, length, Some, None, Option, ◌==◌, nat_eq, nat_lt, slice_index}
+use Rattle.std.specs.Prelude.{ℕ, Bool, true, cond, ◌&&◌, ◌||◌, List, [], ◌∷◌, length, None, Option, ◌==◌, nat_eq, nat_lt, slice_index}
 use Rattle.cubes.specs.Masks.{mask_of}
 use Rattle.cubes.specs.Cubes.{of_masks}
 use Rattle.cubes.specs.declared.cube.Cube.{Cube}

@@ -1,10 +1,10 @@
 -- The text of what a call, an excuse and a claim answered. No line has its line feed here.
-use Rattle.std.specs.Prelude.{ℕ, List, [], ◌∷◌, ◌++◌, Some, None, Ok, Err, codes, decimal, Option, Result}
+use Rattle.std.specs.Prelude.{ℕ, List, ◌++◌, Some, None, Ok, Err, codes, decimal, Option, Result}
 use Rattle.sheets.specs.Sheets.{number, answer_number}
 use Rattle.sheets.specs.declared.reply.Reply.{Reply}
 use Rattle.sheets.specs.declared.refusal.Refusal.{Refusal}
 use Rattle.sheets.specs.declared.refusal.Refusal.TheVariants as refusal
-use Rattle.goals.specs.Excusing.{number as excuse-number}
+use Rattle.goals.specs.Excusing.{number as excuse_number}
 use Rattle.goals.specs.declared.refusal.NotExcused.{NotExcused}
 use Rattle.claims.specs.declared.refusal.ClaimRefusal.{ClaimRefusal}
 use Rattle.claims.specs.declared.refusal.ClaimRefusal.TheVariants as claim
@@ -41,7 +41,7 @@ answer_line (Err e) = refused_text (number e) (duty_left_bare e)
 -- the line of a duty that was to be excused
 abbrev pub excuse_line : Result Unit NotExcused → List ℕ
 excuse_line (Ok _) = codes "ok"
-excuse_line (Err e) = codes "refused " ++ decimal (excuse-number e)
+excuse_line (Err e) = codes "refused " ++ decimal (excuse_number e)
 
 -- the line of a claim: its length, or `refused`, the number and the places; of two duties that one vector covers
 -- the earlier place, then the later

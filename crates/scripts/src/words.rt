@@ -52,6 +52,7 @@ pub fn words_of<'a>(heap: Global, line: &'a [u8]) -> Result<Vec<Piece<'a>>, Allo
 }
 
 // The lines of a text: what stands between its line feeds.
+#[tactic(auto, using(crate::proofs::Cutting::line_ends, crate::proofs::Cutting::line_goes_on))]
 pub fn lines_of<'a>(heap: Global, text: &'a [u8]) -> Result<Vec<Piece<'a>>, AllocError>
     ensures { IfOk result (λ lines. texts lines.items ≡ lines_of text.now) }
 {

@@ -1,6 +1,6 @@
 -- Enter: the cube as the last row, in place, with the next serial; refused where an input at or above the goal's is
 -- known, then at 256 rows, then when serial 65,535 has been given.
-use Rattle.std.specs.Prelude.{ℕ, ◌+◌, false, cond, [], ◌∷◌, ◌++◌, length, Ok, nat_le}
+use Rattle.std.specs.Prelude.{◌+◌, cond, [], ◌∷◌, ◌++◌, length, Ok, nat_le}
 use Rattle.cubes.specs.declared.cube.Cube.{Cube}
 use Rattle.goals.specs.Goals.{Meaning}
 use Rattle.sheets.specs.declared.reply.Reply.TheVariants.{Gave}

@@ -1,6 +1,6 @@
 -- Lists of calls on a sheet, and what holds of each: no wanted duty that was covered is ever bare again, and right after a
 -- sweep no row in place is spare.
-use Rattle.std.specs.Prelude.{◌≡◌, ℕ, ◌+◌, ◌<◌, ◌≤◌, Bool, true, false, List, [], ◌∷◌, ◌++◌, length, take, Result, slice_index_or}
+use Rattle.std.specs.Prelude.{◌≡◌, ℕ, ◌+◌, ◌<◌, ◌≤◌, true, false, List, [], ◌∷◌, ◌++◌, length, take, Result, slice_index_or}
 use Rattle.goals.specs.Goals.{Meaning}
 use Rattle.sheets.specs.declared.row.Row.{Row}
 use Rattle.sheets.specs.declared.reply.Reply.{Reply}

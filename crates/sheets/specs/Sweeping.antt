@@ -1,6 +1,6 @@
 -- Sweep: from the last row to the first, each row in place whose wanted duties are all covered by other rows then in place
 -- is removed; the answer is how many. As a function, so that runs compute, and as a relation (Swept).
-use Rattle.std.specs.Prelude.{◌≡◌, ℕ, ◌+◌, ◌-◌, ◌<◌, Bool, true, false, cond, not, ◌&&◌, ◌||◌, List, [], ◌∷◌, ◌++◌, length, is_some, ◌==◌, slice_index, slice_index_or}
+use Rattle.std.specs.Prelude.{◌≡◌, ℕ, ◌+◌, ◌-◌, ◌<◌, Bool, false, cond, not, ◌&&◌, ◌||◌, List, [], ◌∷◌, ◌++◌, length, is_some, ◌==◌, slice_index, slice_index_or}
 use Rattle.cubes.specs.Searching.{least}
 use Rattle.goals.specs.Goals.{Meaning}
 use Rattle.sheets.specs.declared.row.Row.{Row}

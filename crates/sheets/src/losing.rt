@@ -43,6 +43,7 @@ fn first_left(left: &[bool]) -> Option<u32>
 }
 
 // The smallest wanted duty of the row that neither the cube, where there is one, nor a row in place covers.
+#[tactic(auto, using(crate::proofs::Losses::apart_in, crate::proofs::Losses::apart_out))]
 pub(crate) fn first_lost<G: Goal>(
     goal: &G,
     row: &Row,

@@ -1,8 +1,8 @@
-use Rattle.std.proofs.Common.{◌≡◌, ℕ, suc, ◌+◌, ◌*◌, ◌≤◌, length, get_or, Some, None, sym, refl, ap, ◌∙◌, subst, add-one, arith, below_more}
+use Rattle.std.proofs.Common.{◌≡◌, length, get_or, None, sym, ap, ◌∙◌, add-one, arith, below_more}
 use Rattle.boards.specs.declared.parts.Seen.{Seen}
 use Rattle.boards.specs.Records.{trouble, counts, counted}
 use Rattle.boards.specs.Reading.{record_at}
-use Rattle.boards.specs.Scanning.{so_far, with_record}
+use Rattle.boards.specs.Scanning.{so_far}
 use Rattle.boards.proofs.Accepted.{reached, counts_more, part_is, record_length}
 use Rattle.boards.proofs.reading.check_all.Goals as goal
 

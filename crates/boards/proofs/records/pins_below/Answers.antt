@@ -1,4 +1,4 @@
-use Rattle.std.proofs.Common.{◌≡◌, ◌-◌, ◌*◌, take, drop, sym, refl, ap, ◌∙◌, arith}
+use Rattle.std.proofs.Common.{◌≡◌, ◌-◌, ◌*◌, take, drop, sym, ap, ◌∙◌, arith}
 use Rattle.boards.specs.Records.{all_below, words}
 use Rattle.boards.proofs.Fields.{below_more_pins, below_end}
 use Rattle.boards.proofs.records.pins_below.Goals as goal

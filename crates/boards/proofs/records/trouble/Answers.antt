@@ -1,4 +1,4 @@
-use Rattle.std.proofs.Common.{◌≡◌, ◌-◌, length, get_or, take, drop, ap, ◌∙◌}
+use Rattle.std.proofs.Common.{◌-◌, length, get_or, take, drop, ap, ◌∙◌}
 use Rattle.std.proofs.lemmas.List.{take_rest}
 use Rattle.boards.specs.Records.{word, trouble_in, trouble_of}
 use Rattle.boards.proofs.records.trouble.Goals as goal

@@ -1,4 +1,4 @@
-use Rattle.std.proofs.Common.{◌≡◌, ℕ, ◌+◌, ◌*◌, ◌^◌, min, ltb, ◌∙◌, subst, arith}
+use Rattle.std.proofs.Common.{ℕ, ◌+◌, ◌*◌, ◌^◌, min, ltb, subst, arith}
 use Rattle.cubes.specs.Blocks.{Marks}
 use Rattle.cubes.proofs.Words.{number_is}
 use Rattle.cubes.proofs.walk.block.Goals as goal

@@ -1,4 +1,4 @@
-use Rattle.std.proofs.Common.{◌≡◌, ℕ, ◌+◌, ◌*◌, sym, refl, ◌∙◌, subst, arith}
+use Rattle.std.proofs.Common.{ℕ, ◌+◌, ◌*◌, sym, refl, ◌∙◌, subst, arith}
 use Rattle.cubes.specs.Masks.{has}
 use Rattle.cubes.specs.Blocks.{Marks}
 use Rattle.cubes.proofs.Words.{low_pattern, high_pattern}

@@ -1,4 +1,4 @@
-use Rattle.std.proofs.Common.{◌≡◌, ℕ, ◌^◌, ◌<◌, ◌≤◌, min, ◌∙◌, subst, arith}
+use Rattle.std.proofs.Common.{◌≡◌, ℕ, ◌^◌, ◌≤◌, min, subst, arith}
 use lib.Bits.{bit_and, and_lt}
 use Rattle.cubes.specs.Masks.{most_inputs}
 use Rattle.cubes.specs.Searching.{Sought}

@@ -1,4 +1,4 @@
-use Rattle.std.proofs.Common.{◌≡◌, ℕ, ◌+◌, ◌/◌, ◌^◌, ◌<◌, ◌≤◌, cond, eqb, List, get_or, sym, refl, ap, ◌∙◌, add-one, arith}
+use Rattle.std.proofs.Common.{◌≡◌, ℕ, ◌+◌, ◌/◌, ◌^◌, cond, eqb, List, get_or, ◌∙◌, add-one, arith}
 use lib.Bits.{bit_and}
 use Rattle.cubes.specs.Masks.{has}
 use Rattle.cubes.specs.Blocks.{number_at}

@@ -1,4 +1,4 @@
-use Rattle.std.proofs.Common.{◌<◌, arith, below_more}
+use Rattle.std.proofs.Common.{arith, below_more}
 use Rattle.devices.proofs.Apart.{same_itself, passed_over}
 use Rattle.std.proofs.lemmas.Bool.{both_ways}
 use Rattle.devices.proofs.labels.label_of.Goals as goal

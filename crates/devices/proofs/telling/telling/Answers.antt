@@ -1,4 +1,4 @@
-use Rattle.std.proofs.Common.{◌≡◌, ℕ, ◌<◌, ◌≤◌, ⊎_elim, ◌∙◌, arith}
+use Rattle.std.proofs.Common.{ℕ, ◌<◌, ◌≤◌, ⊎_elim, ◌∙◌, arith}
 use Rattle.std.proofs.lemmas.Bool.{cases_lt}
 use Rattle.devices.specs.Widely.{answer_at}
 use Rattle.devices.specs.Devices.{Known}
@@ -14,5 +14,5 @@ returns g c k h =
     let p = c.answers.ensures k h in
     let q = c.answers-2.ensures k h in
     let few : (o : ℕ) → Known a o → o < 32 = λ o known.
-      ⊎_elim (λ (l : o < m.outputs). let n = law.few_outputs in omega arith) (λ (l : m.outputs ≤ o). absurd (law.none_above c.args.i _ o l known)) (cases_lt o m.outputs) in
+    ⊎_elim (λ (l : o < m.outputs). let n = law.few_outputs in omega arith) (λ (l : m.outputs ≤ o). absurd (law.none_above c.args.i _ o l known)) (cases_lt o m.outputs) in
     c.crossing.ensures k h ∙ told_by_words c.answers.result c.answers-2.result a b k p.0 p.1 q.0 q.1 few

@@ -1,7 +1,6 @@
-use Rattle.std.proofs.Common.{◌≡◌, ℕ, ◌+◌, ◌^◌, ◌/◌, ◌<◌, ◌≤◌, Bool, true, false, ◌&&◌, List, get_or, length, set, sym, refl, ap, ◌∙◌, arith, below_more}
+use Rattle.std.proofs.Common.{◌≡◌, ℕ, Bool, true, false, ◌&&◌, get_or, sym, refl, ap, ◌∙◌, arith, below_more}
 use Rattle.std.proofs.lemmas.List.{length-set, get_or-set_other}
 use Rattle.std.proofs.lemmas.Bool.{eq-eqb, ne_eqb}
-use Rattle.std.specs.Int.Bits.{bit_and}
 use Rattle.cubes.specs.Masks.{has}
 use Rattle.cubes.proofs.Words.{has_low, has_zero}
 use Rattle.cubes.proofs.Filling.{filled}
@@ -36,21 +35,21 @@ loop-o-preserved c =
     let old = c.loop-o.invariant in
     let P : ℕ → ℕ → Type 0 = λ o w. (k : ℕ) → has w k ≡ (has (get_or words o 0) k && has mask o) in
     elim c.if-mask-o-eq1.branch [
-      then-mask-o-eq1 w ↦
-        let here : has mask i ≡ true = sym (has_low mask i) ∙ eq-eqb _ 1 w.if-mask-o-eq1.true in
-        rw w.seen-is (
-          length-set seen i _ ∙ old.0,
-          filled P seen 0 i (get_or words i 0) (omega (arith, old.0)) old.1 (λ k. whole (get_or words i 0) mask i k here),
-          (λ o h l. get_or-set_other seen i o _ 0 (λ e. omega arith) ∙ old.2 o (omega arith) l),
-        )
-    | else-mask-o-eq1 w ↦
-        let here : has mask i ≡ false = sym (has_low mask i) ∙ ne_eqb _ 1 w.if-mask-o-eq1.false in
-        let nothing : get_or seen i 0 ≡ 0 = old.2 i (omega arith) (omega arith) in
-        rw w.seen-is (
-          old.0,
-          below_more (λ o. P o (get_or seen o 0)) i old.1 (λ k. ap (λ x. has x k) nothing ∙ none (get_or words i 0) mask i k here),
-          (λ o h l. old.2 o (omega arith) l),
-        )
+      | then-mask-o-eq1 w ↦
+          let here : has mask i ≡ true = sym (has_low mask i) ∙ eq-eqb _ 1 w.if-mask-o-eq1.true in
+          rw w.seen-is (
+            length-set seen i _ ∙ old.0,
+            filled P seen 0 i (get_or words i 0) (omega (arith, old.0)) old.1 (λ k. whole (get_or words i 0) mask i k here),
+            (λ o h l. get_or-set_other seen i o _ 0 (λ e. omega arith) ∙ old.2 o (omega arith) l),
+          )
+      | else-mask-o-eq1 w ↦
+          let here : has mask i ≡ false = sym (has_low mask i) ∙ ne_eqb _ 1 w.if-mask-o-eq1.false in
+          let nothing : get_or seen i 0 ≡ 0 = old.2 i (omega arith) (omega arith) in
+          rw w.seen-is (
+            old.0,
+            below_more (λ o. P o (get_or seen o 0)) i old.1 (λ k. ap (λ x. has x k) nothing ∙ none (get_or words i 0) mask i k here),
+            (λ o h l. old.2 o (omega arith) l),
+          )
     ]
 
 pub returns : goal.returns

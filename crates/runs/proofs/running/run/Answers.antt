@@ -1,10 +1,9 @@
-use Rattle.std.proofs.Common.{◌≡◌, ℕ, ◌+◌, ◌<◌, ◌≤◌, List, [], ◌∷◌, ◌++◌, map, length, get_or, take, vec_items, vec_len, vec_capacity, sym, refl, ap, ◌∙◌, subst, arith}
+use Rattle.std.proofs.Common.{◌≡◌, ◌+◌, ◌<◌, [], ◌∷◌, ◌++◌, length, get_or, take, vec_items, sym, ap, ◌∙◌, subst, arith}
 use Rattle.std.proofs.lemmas.List.{take_all}
 use Rattle.goals.specs.Goals.{Meaning}
-use Rattle.sheets.specs.Sheets.{State, Outcome, state, new}
+use Rattle.sheets.specs.Sheets.{Outcome, state, new}
 use Rattle.sheets.specs.Running.{does, after, answers}
 use Rattle.sheets.proofs.Whole.{after_more}
-use Rattle.runs.specs.Hands.{Ready}
 use Rattle.claims.specs.Claims.{verdict}
 use Rattle.claims.specs.Bounds.{Bound}
 use Rattle.runs.proofs.Finishing.{answers_more, promised}

@@ -1,4 +1,4 @@
-use Rattle.std.proofs.Common.{◌≡◌, ◌+◌, ◌≤◌, length, take, vec_items, vec_len, vec_capacity}
+use Rattle.std.proofs.Common.{◌≡◌, ◌≤◌, length, take, vec_items, vec_len, vec_capacity}
 use Rattle.sheets.specs.Sheets.{state, new}
 use Rattle.sheets.specs.Running.{after, answers}
 use Rattle.runs.specs.Hands.{Ready}

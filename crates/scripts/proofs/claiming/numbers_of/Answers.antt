@@ -1,4 +1,3 @@
-use Rattle.std.proofs.Common.{vec_items}
 use Rattle.scripts.proofs.Adding.{no_number, one_number, all_words}
 use Rattle.scripts.proofs.claiming.numbers_of.Goals as goal
 

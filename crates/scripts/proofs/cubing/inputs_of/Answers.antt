@@ -1,4 +1,4 @@
-use Rattle.std.proofs.Common.{◌≡◌, ◌+◌, ◌*◌, sym, ap, ◌∙◌, arith}
+use Rattle.std.proofs.Common.{◌*◌, ap, ◌∙◌, arith}
 use Rattle.scripts.specs.Cubing.{inputs_of}
 use Rattle.scripts.proofs.Masking.{small, next_bit, has_letter, has_other}
 use Rattle.scripts.proofs.cubing.inputs_of.Goals as goal

@@ -1,7 +1,7 @@
-use Rattle.std.proofs.Common.{◌≡◌, ◌+◌, ◌-◌, ◌*◌, get_or, drop, sym, ap, ◌∙◌, arith}
+use Rattle.std.proofs.Common.{◌+◌, ◌-◌, ◌*◌, get_or, drop, sym, ◌∙◌}
 use Rattle.std.proofs.lemmas.List.{at_drop_more, at_drop_all}
 use Rattle.scripts.specs.Numerals.{reads_from}
-use Rattle.scripts.proofs.Reading.{at_least_48, reads_more, no_digit, too_large, all_read, not_empty}
+use Rattle.scripts.proofs.Reading.{reads_more, no_digit, too_large, all_read, not_empty}
 use Rattle.scripts.proofs.numbers.number_of.Goals as goal
 
 pub loop-byte-preserved : goal.loop-byte-preserved

@@ -1,24 +1,8 @@
-use Rattle.std.proofs.Common.{◌≡◌, ℕ, ◌+◌, ◌<◌, Bool, false, not, ◌&&◌, ◌||◌, length, get_or, drop, sym, ap, ◌∙◌, subst, arith}
+use Rattle.std.proofs.Common.{◌≡◌, ℕ, ◌<◌, Bool, false, not, ◌&&◌, ◌||◌, length, get_or, sym, ap, ◌∙◌, arith}
 use Rattle.sheets.specs.Sheets.{row_covers, some_covers, in_place, loses}
-use Rattle.sheets.proofs.Losses.{ApartFrom, apart_in, apart_out, apart_all, lost_further}
+use Rattle.sheets.proofs.Losses.{apart_all, lost_further}
 use Rattle.sheets.proofs.losing.first_lost.Goals as goal
-use Rattle.sheets.proofs.losing.first_lost.Goals.{in-Some, in_default, then-not-other, else-not-other}
-
-pub loop-other-preserved : goal.loop-other-preserved
-loop-other-preserved g c =
-    let m = g.G.Goal.means c.args.goal.now in
-    let rows = c.args.rows.now in
-    let i = c.loop-other.other-index in
-    let left = c.loop-other.left in
-    let passes : ℕ → Bool = λ d. get_or c.match-by.left d false && not (in_place m rows d) in
-    let h = c.loop-other-test.true in
-    elim c.if-not-other.branch [
-      | then-not-other w ↦ subst (ApartFrom m passes (drop (i + 1) rows)) (sym w.left-is)
-          (apart_in m passes rows i left h w.if-not-other.true w.take_off-then-not-other.new.left w.take_off-then-not-other.auto.left
-          (λ d l. w.take_off-then-not-other.ensures d l ∙ ap (λ (b : Bool). get_or left d false && not b) (w.mark_row-then-not-other.ensures d (omega arith)))
-          c.loop-other.invariant)
-      | else-not-other w ↦ subst (ApartFrom m passes (drop (i + 1) rows)) (sym w.left-is) (apart_out m passes rows i left h w.if-not-other.false c.loop-other.invariant)
-    ]
+use Rattle.sheets.proofs.losing.first_lost.Goals.{in-Some, in_default}
 
 -- what is left of what the row covers and is wanted, without what the cube and the rows cover
 parts : (v k w r s p : Bool) → v ≡ (k && not s) → k ≡ (w && r) → (v && not p) ≡ (w && (r && not (s || p)))

@@ -1,13 +1,12 @@
-use Rattle.std.proofs.Common.{◌≡◌, ℕ, ◌-◌, true, eqb, List, length, get_or, take, drop, Some, None, vec_items, sym, ap, ◌∙◌, subst, arith}
+use Rattle.std.proofs.Common.{◌≡◌, ◌-◌, eqb, length, get_or, take, drop, Some, vec_items, sym, ap, ◌∙◌, arith}
 use Rattle.std.proofs.lemmas.List.{take_rest, length-map, length-drop}
 use Rattle.std.proofs.lemmas.Bool.{and_parts, eqb-true, ltb-true}
-use Rattle.boards.specs.declared.parts.Class.{Class}
-use Rattle.boards.specs.declared.parts.Class.TheVariants.{Input, Gate as GateRecord, Output, Fault as FaultRecord}
-use Rattle.boards.specs.Cards.{Card, lines, pins_fit}
+use Rattle.boards.specs.declared.parts.Class.TheVariants.{Input, Gate as GateRecord}
+use Rattle.boards.specs.Cards.{lines, pins_fit}
 use Rattle.boards.specs.Wiring.{gate_of}
 use Rattle.boards.specs.Boards.{card_of}
-use Rattle.boards.specs.Records.{word, words, all_below, class, gate_fits, trouble, counts}
-use Rattle.boards.proofs.Passing.{Passed, passes_as}
+use Rattle.boards.specs.Records.{word, words, all_below, gate_fits, counts}
+use Rattle.boards.proofs.Passing.{passes_as}
 use Rattle.boards.proofs.board.Board.add.Goals as goal
 
 pub add_input-requires : goal.add_input-requires

@@ -1,4 +1,4 @@
-use Rattle.std.proofs.Common.{◌≡◌, List, vec_items, sym, subst, arith}
+use Rattle.std.proofs.Common.{List, vec_items, sym, subst, arith}
 use Rattle.boards.specs.declared.parts.Fault.{Fault}
 use Rattle.boards.specs.Cards.{card, Sound}
 use Rattle.boards.specs.Wiring.{wired}

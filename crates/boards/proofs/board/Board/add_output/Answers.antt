@@ -1,4 +1,4 @@
-use Rattle.std.proofs.Common.{◌≡◌, ℕ, List, vec_items, sym, subst, arith}
+use Rattle.std.proofs.Common.{ℕ, List, vec_items, sym, subst, arith}
 use Rattle.boards.specs.Cards.{card, Sound}
 use Rattle.boards.specs.Wiring.{wired}
 use Rattle.boards.specs.Boards.{card_of}

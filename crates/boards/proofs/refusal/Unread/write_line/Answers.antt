@@ -1,8 +1,7 @@
-use Rattle.std.proofs.Common.{◌≡◌, ℕ, ◌+◌, ◌^◌, ◌<◌, ◌≤◌, List, [], ◌∷◌, ◌++◌, length, set, codes, decimal, sym, refl, ap, ◌∙◌, append_assoc, arith}
+use Rattle.std.proofs.Common.{◌≡◌, ℕ, ◌+◌, ◌≤◌, List, [], ◌∷◌, ◌++◌, length, set, codes, decimal, refl, ap, ◌∙◌, append_assoc, arith}
 use Rattle.std.proofs.lemmas.List.{length-append}
 use Rattle.texts.specs.Texts.{placed}
 use Rattle.texts.proofs.Placing.{placed_append, placed_start, decimal_length_le}
-use Rattle.boards.specs.declared.refusal.Unread.{Unread}
 use Rattle.boards.specs.Refusing.{number, named, refused_line}
 use Rattle.boards.proofs.refusal.Unread.write_line.Goals as goal
 

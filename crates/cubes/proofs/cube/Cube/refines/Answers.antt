@@ -1,4 +1,4 @@
-use Rattle.std.proofs.Common.{◌≡◌, arith}
+use Rattle.std.proofs.Common.{arith}
 use Rattle.std.proofs.lemmas.Bool.{and_parts, and_from, eqb-true, eq-eqb}
 use Rattle.cubes.proofs.Bits.{within_bits, bits_within}
 use Rattle.cubes.proofs.cube.Cube.refines.Goals as goal

@@ -1,4 +1,3 @@
-use Rattle.std.proofs.Common.{◌≡◌}
 use Rattle.std.proofs.lemmas.Bool.{or_from}
 use Rattle.cubes.proofs.Bits.{share_none}
 use Rattle.cubes.proofs.Alike.{united_apart}

@@ -1,4 +1,4 @@
-use Rattle.std.proofs.Common.{◌≡◌, ℕ, ◌-◌, ◌*◌, ◌%◌, ◌^◌, ◌<◌, ◌≤◌, arith, pow_pos}
+use Rattle.std.proofs.Common.{◌≡◌, ◌*◌, ◌%◌, ◌^◌, ◌<◌, arith, pow_pos}
 use Rattle.std.proofs.lemmas.Nat.{one_shl}
 use Rattle.cubes.specs.Cubes.{rest_apart}
 use Rattle.cubes.proofs.Alike.{is_vector}

@@ -1,4 +1,4 @@
-use Rattle.std.proofs.Common.{◌≡◌, ℕ, ◌&&◌, Bool, sym, ap, ◌∙◌}
+use Rattle.std.proofs.Common.{◌&&◌, Bool, sym, ap, ◌∙◌}
 use Rattle.cubes.specs.Masks.{has}
 use Rattle.cubes.proofs.Words.{has_and}
 use Rattle.devices.specs.Widely.{answer_at}

@@ -1,4 +1,4 @@
-use Rattle.std.proofs.Common.{◌≡◌, sym, ap, subst}
+use Rattle.std.proofs.Common.{subst}
 use Rattle.devices.specs.Widely.{Answers}
 use Rattle.devices.proofs.shared.RcDevice.answers.Goals as goal
 
