@@ -1,12 +1,12 @@
 #!/usr/bin/env python3
 """Brings the repository's own definitions and lemmas to today's spelling: words in snake case, types in camel case.
 
-usage: python3 tools/respell.py [--dry]      at the top of the checkout, once, right after the kit's port.py
+usage: python3 tools/respell.py [--dry | --anyway]      at the top of the checkout, once, right after the kit's port.py
 
 It renames what specs/ and proofs/ define (definitions, lemmas, fields of records, constructors), in .antt files, in
 the clauses and ghost items of .rt files, and where a page or a comment names one in backticks. Functions and types of
 src/, strings, inputs and outputs keep their names, and so do the goals that Rattle names. It stops, with nothing
-written, where two names would fall together. A definition may have the name of the function of src/ that it describes:
+written, where two names would fall together (--anyway goes on; --dry writes nothing in any case). A definition may have the name of the function of src/ that it describes:
 clauses and code never mean one another's names.
 """
 import glob
