@@ -212,6 +212,28 @@ bit_high s b k i h l =
 pub bit_mod : (n v i : ℕ) → i < n → bit (v % 2 ^ n) i ≡ bit v i
 bit_mod n v i h = sym (bit_low n (v / 2 ^ n) (v % 2 ^ n) i h) ∙ ap (λ x. bit x i) (shr_split v n)
 
+-- a number below 2 ^ k with the bit b put on top of it, at place k
+bit_itself : (b : ℕ) → b < 2 → bit b 0 ≡ b
+bit_itself zero h = refl
+bit_itself (suc zero) h = refl
+bit_itself (suc (suc b)) h = absurd (omega arith)
+
+pub bit_at_top : (w b k : ℕ) → w < 2 ^ k → b < 2 → bit (w + b * 2 ^ k) k ≡ b
+bit_at_top w b k h l =
+    let e : w + b * 2 ^ k ≡ b * 2 ^ k + w = omega arith in
+    let z : k - k ≡ 0 = omega arith in
+    ap (λ x. bit x k) e ∙ bit_high k b w k h (omega arith) ∙ ap (bit b) z ∙ bit_itself b l
+
+pub bit_below_top : (w b k q : ℕ) → q < k → bit (w + b * 2 ^ k) q ≡ bit w q
+bit_below_top w b k q h =
+    let e : w + b * 2 ^ k ≡ b * 2 ^ k + w = omega arith in
+    ap (λ x. bit x q) e ∙ bit_low k b w q h
+
+pub topped_below : (w b k : ℕ) → w < 2 ^ k → b < 2 → w + b * 2 ^ k < 2 ^ (k + 1)
+topped_below w zero k h l = let e : 2 ^ (k + 1) ≡ 2 ^ k * 2 ^ 1 = pow-add 2 k 1 in omega arith
+topped_below w (suc zero) k h l = let e : 2 ^ (k + 1) ≡ 2 ^ k * 2 ^ 1 = pow-add 2 k 1 in omega arith
+topped_below w (suc (suc b)) k h l = absurd (omega arith)
+
 -- the mask of all places below n
 pub bit_ones : (n i : ℕ) → i < n → bit (2 ^ n - 1) i ≡ 1
 bit_ones n i h =

@@ -50,6 +50,12 @@ has_zero k = ap (λ x. eqb x 1) (bit_zero k)
 pub has_ones : (n k : ℕ) → k < n → has (2 ^ n - 1) k ≡ true
 has_ones n k h = ap (λ x. eqb x 1) (bit_ones n k h)
 
+pub bit_from_has : (m i : ℕ) → has m i ≡ true → bit m i ≡ 1
+bit_from_has m i h = eqb-true (bit m i) 1 h
+
+pub has_from_bit : (m i : ℕ) → bit m i ≡ 1 → has m i ≡ true
+has_from_bit m i h = ap (λ x. eqb x 1) h
+
 -- `m >> i & 1 == 1` asks for place i
 pub has_low : (m i : ℕ) → eqb (bit_and (m / 2 ^ i) 1) 1 ≡ has m i
 has_low m i = ap (λ x. eqb x 1) (low_bit m i)
