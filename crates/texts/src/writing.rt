@@ -17,9 +17,7 @@ pub fn put_all(text: &mut [u8], at: usize, bytes: &[u8])
     ensures { text.new ≡ placed text.old at bytes.now }
 {
     // A place that saturates lies past the end of every text, as the place that it stands for does.
-    let mut place = at;
-    for byte in bytes {
-        put(text, place, *byte);
-        place = place.saturating_add(1);
+    for (k, byte) in bytes.iter().enumerate() {
+        put(text, at.saturating_add(k), *byte);
     }
 }

@@ -1,8 +1,8 @@
 -- What the writing of bytes keeps true.
-use Rattle.std.proofs.Common.{◌≡◌, drop}
+use Rattle.std.proofs.Common.{◌≡◌, ◌+◌, drop}
 use Rattle.texts.specs.Texts.{placed}
 use Rattle.texts.proofs.writing.put_all.Given as goal
 
 -- writing what is left gives what is to be written
-abbrev pub invariant-loop-byte : goal.invariant-loop-byte
-invariant-loop-byte l = placed l.text l.place (drop l.byte-index l.bytes) ≡ placed l.initial.text l.at l.bytes
+abbrev pub invariant-loop-k : goal.invariant-loop-k
+invariant-loop-k l = placed l.text (l.at + l.k) (drop l.k l.bytes) ≡ placed l.initial.text l.at l.bytes

@@ -1,5 +1,0 @@
--- The front of a number is less than the number.
-use Rattle.texts.proofs.decimal.+put_digits.Given as goal
-
-abbrev pub decreases-put_digits : goal.decreases-put_digits
-decreases-put_digits l = l.n
