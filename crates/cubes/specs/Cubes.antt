@@ -70,9 +70,13 @@ abbrev pub Numbered : ℕ → ℕ → Option Cube → Type 0
 Numbered n v (Some c) = IsVector n v × (c ≡ vector n v)
 Numbered n v None = IsVector n v → ⊥
 
--- the letter of input i: 0, 1 or X for unknown
+-- the letter of input i of two masks: 0, 1 or X for unknown
+abbrev pub letter_of : ℕ → ℕ → ℕ → ℕ
+letter_of zeros ones i = cond (bit zeros i == 1) 48 (cond (bit ones i == 1) 49 88)
+
+-- the letter of input i of a cube
 abbrev pub letter : Cube → ℕ → ℕ
-letter c i = cond (bit c.zeros i == 1) 48 (cond (bit c.ones i == 1) 49 88)
+letter c i = letter_of c.zeros c.ones i
 
 -- the letters of the first n inputs, input 0 first
 abbrev pub letters : ℕ → Cube → List ℕ

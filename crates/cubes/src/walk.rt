@@ -1,24 +1,42 @@
-// The walk through all vectors of some inputs, 64 at a time, and the search for the smallest that passes. Which vectors a
-// search by words looks at, and in which order, is known here alone.
+// The walk through all vectors of some inputs, one by one or 64 at a time, and the search for the smallest that passes. Which
+// vectors a search looks at, and in which order, is known here alone.
 ghost use Rattle.std.specs.Prelude.{◌≡◌, ℕ, ◌+◌, ◌*◌, ◌/◌, ◌^◌, ◌<◌, ◌≤◌, min, Bool, nat_lt, slice_index};
 ghost use Rattle.cubes.specs.Masks.{most_inputs, has};
 ghost use Rattle.cubes.specs.Searching.{Sought, First};
 ghost use Rattle.cubes.specs.Blocks.{number_at, Marks, BlockOf};
+ghost use Rattle.cubes.specs.Cubes.{vector};
 
 use crate::block::Block;
+use crate::cube::Cube;
 use crate::mask::{InputWords, MOST_INPUTS, Mask};
+use crate::wide::{vector_at, with_bit};
 
-// What a search asks of vectors: which of 64 of them pass.
+// What a search asks of vectors: whether one passes, or which of 64 of them do.
 pub trait Question {
-    // How many inputs the vectors have, and which pass; both questions are answered from this alone.
+    // How many inputs the vectors have, and which pass; each question is answered from this alone.
     ghost asks: { Self → Sought };
 
     fn inputs(&self) -> u8
         ensures value { result ≡ (asks self.now).inputs }
         ensures few { result ≤ most_inputs };
 
+    // Of a cube that is no vector of these inputs it says nothing.
+    fn passes(&self, cube: Cube) -> bool
+        ensures { (number : ℕ) → number < 2 ^ (asks self.now).inputs → cube ≡ vector (asks self.now).inputs number → result ≡ (asks self.now).passes number };
+
+    // A question of a new kind need not answer this; where it can be answered faster than vector by vector, it should.
     fn passing(&self, words: &InputWords) -> u64
-        ensures { Marks (λ k. (asks self.now).passes (number_at (asks self.now).inputs words.now k)) result };
+        ensures { Marks (λ k. (asks self.now).passes (number_at (asks self.now).inputs words.now k)) result }
+    {
+        let inputs = self.inputs();
+        let mut word = 0;
+        for k in 0..64u32 {
+            if let Some(cube) = vector_at(inputs, words, k) {
+                word = with_bit(word, k, self.passes(cube));
+            }
+        }
+        word
+    }
 }
 
 // A word of one value 64 times: bit `place` of the number.
@@ -54,9 +72,9 @@ fn input_word(block: u32, input: usize) -> u64
 fn input_words(block: u32) -> InputWords
     ensures { (i : ℕ) → i < 16 → Marks (λ k. has (64 * block + k) i) (slice_index result i) }
 {
-    let mut words = [0u64; 16];
-    for input in 0..16usize {
-        words[input] = input_word(block, input);
+    let mut words = [0; 16];
+    for (input, word) in words.iter_mut().enumerate() {
+        *word = input_word(block, input);
     }
     words
 }
@@ -91,7 +109,31 @@ pub fn block(inputs: u8, number: u32) -> Block
     }
 }
 
-// The smallest vector that passes. It stops at the first block that has one.
+// Whether the vector with this number passes.
+fn passes_at<Q: Question>(question: &Q, number: Mask) -> bool
+    requires { number < 2 ^ (Q.asks question.now).inputs }
+    ensures { result ≡ (Q.asks question.now).passes number }
+{
+    match Cube::vector(question.inputs(), number) {
+        Some(cube) => question.passes(cube),
+        None => false,
+    }
+}
+
+// The smallest vector that passes, asked one by one. It stops at the first one.
+pub fn first<Q: Question>(question: &Q) -> Option<Mask>
+    ensures { First (2 ^ (Q.asks question.now).inputs) (Q.asks question.now).passes result }
+{
+    for number in 0..1u32 << question.inputs() {
+        let number = number as Mask;
+        if passes_at(question, number) {
+            return Some(number);
+        }
+    }
+    None
+}
+
+// The same smallest vector, asked 64 at a time. It stops at the first block that has one.
 pub fn smallest<Q: Question>(question: &Q) -> Option<Mask>
     ensures { First (2 ^ (Q.asks question.now).inputs) (Q.asks question.now).passes result }
 {

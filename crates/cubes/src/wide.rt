@@ -5,12 +5,12 @@ ghost use Rattle.cubes.specs.Blocks.{number_at, VectorAt};
 use crate::cube::Cube;
 use crate::mask::{InputWords, MOST_INPUTS, Mask};
 
-// A mask with the bit of an input set, or left as it is.
-fn with_input(mask: Mask, input: u8, on: bool) -> Mask
-    requires { (input < 16) × (mask < 2 ^ input) }
-    ensures { result ≡ mask + (if on then 2 ^ input else 0) }
+// A number with bit `place` set above those that it has, or left as it is.
+pub(crate) fn with_bit(number: u64, place: u32, on: bool) -> u64
+    requires { (place < 64) × (number < 2 ^ place) }
+    ensures { result ≡ number + (if on then 2 ^ place else 0) }
 {
-    if on { mask | 1 << input } else { mask }
+    if on { number | 1 << place } else { number }
 }
 
 // The number of the k-th vector that the words hold.
@@ -19,10 +19,10 @@ fn number_at(inputs: u8, words: &InputWords, k: u32) -> Mask
     ensures { result ≡ number_at inputs words.now k }
 {
     let mut number = 0;
-    for input in 0..inputs {
-        number = with_input(number, input, words[input as usize] >> k & 1 == 1);
+    for (input, word) in words[..usize::from(inputs)].iter().enumerate() {
+        number = with_bit(number, input as u32, word >> k & 1 == 1);
     }
-    number
+    number as Mask
 }
 
 // The k-th vector that the words hold, or none where there is no such vector.
