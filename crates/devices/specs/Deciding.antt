@@ -1,12 +1,10 @@
 -- Telling machines apart: what decide and labels promise.
-use Rattle.std.specs.Prelude.{◌≡◌, ℕ, ◌^◌, ◌<◌, ◌≤◌, Bool, List, length, Ok, Err, Result, slice_index}
+use Rattle.std.specs.Prelude.{◌≡◌, ℕ, ◌^◌, ◌<◌, ◌≤◌, Bool, List, length, Some, None, Option, Ok, Err, Result, slice_index}
 use Rattle.cubes.specs.Cubes.{vector}
 use Rattle.cubes.specs.Searching.{NoneBelow, Smallest}
 use Rattle.devices.specs.Devices.{Meaning, told_apart}
-use Rattle.devices.specs.declared.verdict.Verdict.{Verdict}
-use Rattle.devices.specs.declared.verdict.Verdict.TheVariants.{Equivalent, Apart}
-use Rattle.devices.specs.declared.verdict.Refusal.{Refusal}
-use Rattle.devices.specs.declared.verdict.Refusal.TheVariants.{NoSuchMachine, ListTooShort}
+use Rattle.devices.specs.declared.refusal.Refusal.{Refusal}
+use Rattle.devices.specs.declared.refusal.Refusal.TheVariants.{NoSuchMachine, ListTooShort}
 
 -- the number of a refusal
 abbrev pub number : Refusal → ℕ
@@ -29,13 +27,13 @@ EquivalentMachines m i j = NoneBelow (vectors m) (tells m i j)
 abbrev pub Exist : Meaning → ℕ → ℕ → Type 0
 Exist m i j = (i < m.machines) × (j < m.machines)
 
--- a verdict that is true of machines i and j
-abbrev pub TrueVerdict : Meaning → ℕ → ℕ → Verdict → Type 0
-TrueVerdict m i j Equivalent = EquivalentMachines m i j
-TrueVerdict m i j (Apart v) = Smallest (vectors m) (tells m i j) v
+-- a verdict that is true of machines i and j: none where they are equivalent, or the smallest vector that tells them apart
+abbrev pub TrueVerdict : Meaning → ℕ → ℕ → Option ℕ → Type 0
+TrueVerdict m i j None = EquivalentMachines m i j
+TrueVerdict m i j (Some v) = Smallest (vectors m) (tells m i j) v
 
 -- what decide answers
-abbrev pub Decided : Meaning → ℕ → ℕ → Result Verdict Refusal → Type 0
+abbrev pub Decided : Meaning → ℕ → ℕ → Result (Option ℕ) Refusal → Type 0
 Decided m i j (Ok v) = Exist m i j × TrueVerdict m i j v
 Decided m i j (Err e) = (Exist m i j → ⊥) × (e ≡ NoSuchMachine)
 

@@ -3,8 +3,9 @@ ghost use Rattle.std.specs.Prelude.{◌≡◌};
 ghost use Rattle.devices.specs.Deciding.{number, Decided};
 
 use crate::device::Device;
+use crate::refusal::Refusal;
 use crate::telling::smallest_telling;
-use crate::verdict::{Refusal, Verdict};
+use cubes::mask::Mask;
 
 impl Refusal {
     // The number by which the shop knows the refusal.
@@ -18,8 +19,8 @@ impl Refusal {
     }
 }
 
-// Equivalent, or the smallest vector that tells the machines apart.
-pub fn decide<D: Device>(device: &D, i: u16, j: u16) -> Result<Verdict, Refusal>
+// The smallest vector that tells the machines apart, or none where they are equivalent.
+pub fn decide<D: Device>(device: &D, i: u16, j: u16) -> Result<Option<Mask>, Refusal>
     ensures { Decided (D.means device.now) i j result }
 {
     let machines = device.machines();
@@ -29,8 +30,5 @@ pub fn decide<D: Device>(device: &D, i: u16, j: u16) -> Result<Verdict, Refusal>
     if j >= machines {
         return Err(Refusal::NoSuchMachine);
     }
-    match smallest_telling(device, i, j) {
-        Some(number) => Ok(Verdict::Apart(number)),
-        None => Ok(Verdict::Equivalent),
-    }
+    Ok(smallest_telling(device, i, j))
 }

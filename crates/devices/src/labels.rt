@@ -4,17 +4,14 @@ ghost use Rattle.std.specs.Prelude.{◌≡◌, ℕ, ◌<◌, ◌≤◌, length, 
 ghost use Rattle.devices.specs.Deciding.{EquivalentMachines, Label, Labelled};
 
 use crate::device::Device;
+use crate::refusal::Refusal;
 use crate::telling::smallest_telling;
-use crate::verdict::Refusal;
 
 // Whether no vector tells the machines apart.
 fn equivalent<D: Device>(device: &D, i: u16, j: u16) -> bool
     ensures { Decides result (EquivalentMachines (D.means device.now) i j) }
 {
-    match smallest_telling(device, i, j) {
-        None => true,
-        Some(_) => false,
-    }
+    smallest_telling(device, i, j).is_none()
 }
 
 // The label of machine k, where the list has those of the machines before it. Only a machine that is its own
@@ -25,11 +22,10 @@ fn label_of<D: Device>(device: &D, k: u16, list: &[u16]) -> u16
     requires earlier { (j : ℕ) → j < k → Label (D.means device.now) j (slice_index list.now j) }
     ensures { Label (D.means device.now) k result }
 {
+    // By the machines and not by the list: what is answered is a machine.
     for j in 0..k {
-        if list[j as usize] == j {
-            if equivalent(device, j, k) {
-                return j;
-            }
+        if list[usize::from(j)] == j && equivalent(device, j, k) {
+            return j;
         }
     }
     k
@@ -43,6 +39,7 @@ pub fn labels<D: Device>(device: &D, list: &mut [u16]) -> Result<(), Refusal>
     if list.len() < machines as usize {
         return Err(Refusal::ListTooShort);
     }
+    // Not by the places of the list, since a label is found in what the list has so far.
     for k in 0..machines {
         list[k as usize] = label_of(device, k, list);
     }

@@ -10,7 +10,7 @@ use crate::device::Device;
 use crate::widely::crossing;
 use cubes::cube::Cube;
 use cubes::mask::{InputWords, Mask};
-use cubes::walk::{Question, smallest};
+use cubes::walk::{Question, first, smallest};
 
 // Whether some output is 0 in one answer and 1 in the other.
 pub fn told_apart(a: Answer, b: Answer) -> bool
@@ -41,36 +41,27 @@ impl<'a, D: Device> Question for Pair<'a, D> {
         self.device.inputs()
     }
 
+    fn passes(&self, cube: Cube) -> bool {
+        told_apart(
+            self.device.answer(self.i, cube),
+            self.device.answer(self.j, cube),
+        )
+    }
+
     fn passing(&self, words: &InputWords) -> u64 {
         telling(self.device, self.i, self.j, words)
     }
-}
-
-// Whether the vector with this number tells the machines apart.
-fn tells<D: Device>(device: &D, i: u16, j: u16, number: Mask) -> bool
-    requires { number < 2 ^ (D.means device.now).inputs }
-    ensures { result ≡ tells (D.means device.now) i j number }
-{
-    let Some(cube) = Cube::vector(device.inputs(), number) else {
-        return false;
-    };
-    told_apart(device.answer(i, cube), device.answer(j, cube))
 }
 
 // The smallest vector that tells the machines apart. It stops at the first one.
 pub fn smallest_telling<D: Device>(device: &D, i: u16, j: u16) -> Option<Mask>
     ensures { First (2 ^ (D.means device.now).inputs) (tells (D.means device.now) i j) result }
 {
-    for number in 0..1u32 << device.inputs() {
-        let number = number as Mask;
-        if tells(device, i, j, number) {
-            return Some(number);
-        }
-    }
-    None
+    first(&Pair { device, i, j })
 }
 
-// The same smallest vector, found by the walk through 64 vectors at a time.
+// The same smallest vector, asked 64 vectors at a time. It does not take the place of the one above while boards answer
+// vector by vector: tried, such a device is then asked for all 64 of a block, and not up to the first that tells.
 pub fn smallest_telling_by_words<D: Device>(device: &D, i: u16, j: u16) -> Option<Mask>
     ensures { First (2 ^ (D.means device.now).inputs) (tells (D.means device.now) i j) result }
 {

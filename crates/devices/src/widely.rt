@@ -12,8 +12,8 @@ pub(crate) fn lift(words: &mut [u64; 32], k: u32, mask: u32)
     requires before { (o : ℕ) → o < 32 → slice_index words.old o < 2 ^ k }
     ensures { (o : ℕ) → o < 32 → slice_index words.new o ≡ slice_index words.old o + bit mask o * 2 ^ k }
 {
-    for o in 0..32usize {
-        words[o] |= ((mask >> o & 1) as u64) << k;
+    for (o, word) in words.iter_mut().enumerate() {
+        *word |= u64::from(mask >> o & 1) << k;
     }
 }
 
@@ -21,7 +21,8 @@ pub(crate) fn lift(words: &mut [u64; 32], k: u32, mask: u32)
 pub(crate) fn crossing(a: &WideAnswer, b: &WideAnswer) -> u64
     ensures { Marks (opposed a.now b.now 32) result }
 {
-    let mut word = 0u64;
+    let mut word = 0;
+    // One place in four arrays: a chain of three zips would say no more.
     for o in 0..32usize {
         word |= (a.zeros[o] & b.ones[o]) | (a.ones[o] & b.zeros[o]);
     }
@@ -32,10 +33,10 @@ pub(crate) fn crossing(a: &WideAnswer, b: &WideAnswer) -> u64
 pub(crate) fn kept_words(words: &[u64; 32], mask: u32) -> [u64; 32]
     ensures { (k o : ℕ) → o < 32 → has (slice_index result o) k ≡ (has (slice_index words.now o) k && has mask o) }
 {
-    let mut seen = [0u64; 32];
-    for o in 0..32usize {
-        if mask >> o & 1 == 1 {
-            seen[o] = words[o];
+    let mut seen = *words;
+    for (o, word) in seen.iter_mut().enumerate() {
+        if mask >> o & 1 == 0 {
+            *word = 0;
         }
     }
     seen

@@ -4,7 +4,7 @@ use boards::board::Board;
 use devices::decide::decide;
 use devices::labels::labels;
 use devices::masked::Masked;
-use devices::verdict::{Refusal, Verdict};
+use devices::refusal::Refusal;
 use findings::report::report;
 use std::alloc::Global;
 use std::test::Fail;
@@ -44,10 +44,10 @@ fn reports(rt: HostRuntime) -> Result<(), Fail> {
 #[test]
 fn decides(rt: HostRuntime) -> Result<(), Fail> {
     let board = and_gate(rt.alloc())?;
-    assert_eq!(rt; decide(&board, 1, 2)?, Verdict::Equivalent);
-    assert_eq!(rt; decide(&board, 0, 1)?, Verdict::Apart(3));
-    assert_eq!(rt; decide(&board, 0, 4)?, Verdict::Apart(0));
-    assert_eq!(rt; decide(&board, 5, 6)?, Verdict::Apart(1));
+    assert_eq!(rt; decide(&board, 1, 2)?, None);
+    assert_eq!(rt; decide(&board, 0, 1)?, Some(3));
+    assert_eq!(rt; decide(&board, 0, 4)?, Some(0));
+    assert_eq!(rt; decide(&board, 5, 6)?, Some(1));
     Ok(())
 }
 
@@ -86,6 +86,6 @@ fn masked_wholly(rt: HostRuntime) -> Result<(), Fail> {
     let mut list = [77u16; 7];
     labels(&blind, &mut list)?;
     assert_eq!(rt; list, [0u16; 7]);
-    assert_eq!(rt; decide(&blind, 0, 1)?, Verdict::Equivalent);
+    assert_eq!(rt; decide(&blind, 0, 1)?, None);
     Ok(())
 }

@@ -2,13 +2,10 @@ use Rattle.std.proofs.Common.{◌≡◌, ℕ, ◌+◌, get_or, subst, add-one, a
 use lib.Bits.{bit_and, bit_or}
 use Rattle.cubes.specs.Masks.{has}
 use Rattle.cubes.specs.Blocks.{Marks}
-use Rattle.cubes.proofs.Words.{has_and, has_or, has_zero}
+use Rattle.cubes.proofs.Words.{has_and, has_or}
 use Rattle.devices.specs.Widely.{opposed}
 use Rattle.devices.specs.declared.wide.WideAnswer.{WideAnswer}
 use Rattle.devices.proofs.widely.crossing.Goals as goal
-
-pub loop-o-init : goal.loop-o-init
-loop-o-init c k h = has_zero k
 
 -- one output more
 opposed_more : (a b : WideAnswer) (o word k : ℕ) → has word k ≡ opposed a b o k →
