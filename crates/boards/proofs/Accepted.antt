@@ -1,27 +1,26 @@
 -- Records in which nothing is wrong make up a well-formed card, whose file they are.
-use Rattle.std.proofs.Common.{◌≡◌, ℕ, zero, suc, ◌+◌, ◌-◌, ◌*◌, ◌<◌, ◌≤◌, Bool, true, false, cond, eqb, ◌⊎◌, List, ◌∷◌, ◌++◌, length, get_or, take, drop, replicate, Some, None, Option, sym, refl, ap, ◌∙◌, subst, inl, inr, ⊎_elim, arith}
+use Rattle.std.proofs.Common.{◌≡◌, ℕ, zero, suc, ◌+◌, ◌-◌, ◌*◌, ◌%◌, ◌<◌, ◌≤◌, true, cond, eqb, List, [], ◌∷◌, ◌++◌, length, get_or, take, drop, replicate, Some, None, Option, sym, refl, ap, ◌∙◌, subst, ⊎_elim, add-one, arith, below_more}
+use Rattle.std.proofs.lemmas.Bool.Decides.{nat_tests}
 use Rattle.std.proofs.lemmas.Bool.{and_parts, eqb-true, ltb-true, leb-true, cases_lt}
-use Rattle.std.proofs.lemmas.List.{length-take, length-drop, get_or-take, get_or-drop, get_or_past, take-append-drop, take-take, drop-take, length_push}
+use Rattle.std.proofs.lemmas.List.{length-take, length-drop, get_or-take, get_or-drop, get_or_past, take-append-drop, take-take, drop-take, drop-drop, length_push}
+use Rattle.std.specs.Simd.{first_chunks}
 use Rattle.boards.specs.declared.parts.Kind.{Kind}
 use Rattle.boards.specs.declared.parts.Kind.TheVariants.{And, Or, Nand, Nor, Xor, Xnor, Not, Buf}
 use Rattle.boards.specs.declared.parts.Class.{Class}
 use Rattle.boards.specs.declared.parts.Class.TheVariants.{Input, Gate as GateRecord, Output, Fault as FaultRecord}
 use Rattle.boards.specs.declared.parts.Seen.{Seen}
+use Rattle.boards.specs.declared.refusal.Trouble.{Trouble}
+use Rattle.boards.specs.declared.refusal.Unread.TheVariants.{Bad}
 use Rattle.boards.specs.Cards.{Card, Gate, lines, Sound, pins_fit}
 use Rattle.boards.specs.Files.{low, high, pin_bytes, code, file}
 use Rattle.boards.specs.Records.{word, words, zeros, class, kind_of, trouble, counts, counted, one_more}
-use Rattle.boards.specs.Reading.{record_at}
+use Rattle.boards.specs.Reading.{records, record_at, UnreadFor}
 use Rattle.boards.specs.Scanning.{kind_or, fault_in, with_item, with_record, so_far, Good}
 use Rattle.boards.proofs.Packing.{Bytes, low_word, high_word, zeros_all, four_bytes, padded, below_each}
 use Rattle.boards.specs.Pins.{few_pins}
 use Rattle.boards.proofs.Passing.{Passed, of_class, with_kind}
 use Rattle.boards.proofs.Grown.{input_more, gate_more, output_more, fault_more}
 use Rattle.boards.proofs.Filed.{input_end, gate_end, output_end, fault_end}
-
--- where a test chooses the answer j, the answer k is j by the test, or comes from the tests after it
-chosen : {X : Type 0} (b : Bool) (k : X) (o : Option X) (j : X) → cond b (Some j) o ≡ Some k → ((b ≡ true) × (j ≡ k)) ⊎ (o ≡ Some k)
-chosen true k o j e = inl (refl, cc)
-chosen false k o j e = inr e
 
 abbrev pub mark_of : Class → ℕ
 mark_of Input = 0x49
@@ -31,28 +30,21 @@ mark_of FaultRecord = 0x46
 
 -- a mark that has a class is that class's mark
 pub marked : (m : ℕ) (k : Class) → class m ≡ Some k → m ≡ mark_of k
-marked m k e =
-    ⊎_elim (λ p. eqb-true m 0x49 p.0 ∙ ap mark_of p.1)
-    (λ n1. ⊎_elim (λ p. eqb-true m 0x47 p.0 ∙ ap mark_of p.1)
-    (λ n2. ⊎_elim (λ p. eqb-true m 0x4F p.0 ∙ ap mark_of p.1)
-    (λ n3. ⊎_elim (λ p. eqb-true m 0x46 p.0 ∙ ap mark_of p.1)
-    (λ n4. absurd (let z : ◌≡◌ {A = ℕ} 0 1 = cc in omega arith))
-    (chosen (eqb m 0x46) k _ FaultRecord n3)) (chosen (eqb m 0x4F) k _ Output n2)) (chosen (eqb m 0x47) k _ GateRecord n1)) (chosen (eqb m 0x49) k _ Input e)
+marked m Input e = grind (arith, nat_tests)
+marked m GateRecord e = grind (arith, nat_tests)
+marked m Output e = grind (arith, nat_tests)
+marked m FaultRecord e = grind (arith, nat_tests)
 
 -- a byte that has a kind is that kind's byte
 coded : (m : ℕ) (k : Kind) → kind_of m ≡ Some k → m ≡ code k
-coded m k e =
-    ⊎_elim (λ p. eqb-true m 1 p.0 ∙ ap code p.1)
-    (λ n1. ⊎_elim (λ p. eqb-true m 2 p.0 ∙ ap code p.1)
-    (λ n2. ⊎_elim (λ p. eqb-true m 3 p.0 ∙ ap code p.1)
-    (λ n3. ⊎_elim (λ p. eqb-true m 4 p.0 ∙ ap code p.1)
-    (λ n4. ⊎_elim (λ p. eqb-true m 5 p.0 ∙ ap code p.1)
-    (λ n5. ⊎_elim (λ p. eqb-true m 6 p.0 ∙ ap code p.1)
-    (λ n6. ⊎_elim (λ p. eqb-true m 7 p.0 ∙ ap code p.1)
-    (λ n7. ⊎_elim (λ p. eqb-true m 8 p.0 ∙ ap code p.1)
-    (λ n8. absurd (let z : ◌≡◌ {A = ℕ} 0 1 = cc in omega arith))
-    (chosen (eqb m 8) k _ Buf n7)) (chosen (eqb m 7) k _ Not n6)) (chosen (eqb m 6) k _ Xnor n5)) (chosen (eqb m 5) k _ Xor n4))
-    (chosen (eqb m 4) k _ Nor n3)) (chosen (eqb m 3) k _ Nand n2)) (chosen (eqb m 2) k _ Or n1)) (chosen (eqb m 1) k _ And e)
+coded m And e = grind (arith, nat_tests)
+coded m Or e = grind (arith, nat_tests)
+coded m Nand e = grind (arith, nat_tests)
+coded m Nor e = grind (arith, nat_tests)
+coded m Xor e = grind (arith, nat_tests)
+coded m Xnor e = grind (arith, nat_tests)
+coded m Not e = grind (arith, nat_tests)
+coded m Buf e = grind (arith, nat_tests)
 
 same_record : (a a' b b' c c' d d' : ℕ) (xs ys : List ℕ) → a ≡ a' → b ≡ b' → c ≡ c' → d ≡ d' → xs ≡ ys → ◌≡◌ {A = List ℕ} (a ∷ (b ∷ (c ∷ (d ∷ xs)))) (a' ∷ (b' ∷ (c' ∷ (d' ∷ ys))))
 same_record a a' b b' c c' d d' xs ys p q r s t = cc
@@ -160,7 +152,7 @@ record_bytes bs r b i =
     (λ (l : 16 ≤ i). let n = length-take 16 (drop (16 * r) bs) in let e = get_or_past (record_at bs r) i 0 (omega arith) in omega arith)
     (cases_lt i 16)
 
-pub record_length : (bs : List ℕ) (r : ℕ) → 16 * suc r ≤ length bs → length (record_at bs r) ≡ 16
+record_length : (bs : List ℕ) (r : ℕ) → 16 * suc r ≤ length bs → length (record_at bs r) ≡ 16
 record_length bs r h = let e = length-take 16 (drop (16 * r) bs) in let f = length-drop (16 * r) bs in omega arith
 
 -- good records make up a well-formed card, and are its file
@@ -182,6 +174,31 @@ counts_item (Some FaultRecord) c r = ap (λ n. seen c.inputs (length c.gates) (l
 pub counts_more : (c : Card) (r : List ℕ) → counts (with_record c r) ≡ counted (counts c) (get_or r 0 0)
 counts_more c r = counts_item (class (get_or r 0 0)) c r
 
--- the part of the bytes that the code takes is record r
-pub part_is : (bs : List ℕ) (r : ℕ) → take (16 * r + 16 - 16 * r) (drop (16 * r) bs) ≡ record_at bs r
-part_is bs r = let e : 16 * r + 16 - 16 * r ≡ 16 = omega arith in rw e
+-- the records that the bytes are cut into
+cut_at : (n : ℕ) (bs : List ℕ) (r : ℕ) (d : List ℕ) → r < n → get_or (first_chunks 16 n bs) r d ≡ record_at bs r
+cut_at zero bs r d h = absurd (omega arith)
+cut_at (suc n) bs zero d h = refl
+cut_at (suc n) bs (suc r) d h =
+    let e : 16 + 16 * r ≡ 16 * suc r = omega arith in
+    cut_at n (drop 16 bs) r d (omega arith) ∙ ap (take 16) (drop-drop (16 * r) 16 bs ∙ ap (λ k. drop k bs) e)
+
+pub cut_is : (bs : List ℕ) (cs : List (List ℕ)) (r : ℕ) → cs ≡ first_chunks 16 (records bs) bs → r < records bs → get_or cs r [] ≡ record_at bs r
+cut_is bs cs r e h = ap (λ xs. get_or xs r []) e ∙ cut_at (records bs) bs r [] h
+
+module _ (bs : List ℕ) (r : ℕ) (s : Seen) (one : List ℕ) (is : one ≡ record_at bs r) (counted-so-far : s ≡ counts (so_far bs r)) (good : Good bs r) where
+  -- one good record more
+  pub good_more : (s' : Seen) → (trouble s one ≡ None) × (s' ≡ counted s (get_or one 0 0)) → (s' ≡ counts (so_far bs (r + 1))) × Good bs (r + 1)
+  good_more s' e = (
+    e.1
+        ∙ ap (λ p. counted s (get_or p 0 0)) is
+        ∙ ap (λ x. counted x (get_or (record_at bs r) 0 0)) counted-so-far
+        ∙ sym (counts_more (so_far bs r) (record_at bs r))
+        ∙ ap (λ n. counts (so_far bs n)) (sym (add-one r)),
+    below_more _ r good (ap (λ x. trouble x (record_at bs r)) (sym counted-so-far) ∙ ap (trouble s) (sym is) ∙ e.0),
+  )
+
+  -- or the first bad one
+  pub bad_here : Bytes bs → length bs % 16 ≡ 0 → r < records bs → (t : Trouble) → trouble s one ≡ Some t → UnreadFor bs (Bad t r)
+  bad_here b whole there t e =
+      let m = reached bs b r (omega arith) good in
+      (whole, there, (so_far bs r, m.0, m.1, ap (λ x. trouble x (record_at bs r)) (sym counted-so-far) ∙ ap (trouble s) (sym is) ∙ e))

@@ -4,6 +4,7 @@ pub mod Wiring
 pub mod Boards
 pub mod Files
 pub mod Records
+pub mod Parted
 pub mod Reading
 pub mod Scanning
 pub mod Refusing

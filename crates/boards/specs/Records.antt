@@ -1,5 +1,6 @@
 -- One record of a board file: what it adds to a card, and the tests that it has to pass, in their order.
-use Rattle.std.specs.Prelude.{ℕ, ◌+◌, ◌*◌, Bool, true, false, cond, ◌&&◌, List, [], ◌∷◌, length, take, drop, Some, None, Option, ◌==◌, nat_le, nat_lt, slice_index}
+use Rattle.std.specs.Prelude.{◌≡◌, ℕ, ◌+◌, ◌*◌, Bool, true, false, cond, ◌&&◌, List, [], ◌∷◌, length, take, drop, Some, None, Ok, Err, Option, Result, ◌==◌, nat_le, nat_lt, slice_index}
+use Rattle.std.specs.List.{list_all}
 use Rattle.boards.specs.declared.parts.Kind.{Kind}
 use Rattle.boards.specs.declared.parts.Kind.TheVariants.{And, Or, Nand, Nor, Xor, Xnor, Not, Buf}
 use Rattle.boards.specs.declared.parts.Class.{Class}
@@ -21,13 +22,11 @@ words (lo ∷ (hi ∷ bs)) = word lo hi ∷ words bs
 
 -- every byte is zero
 abbrev pub zeros : List ℕ → Bool
-zeros [] = true
-zeros (b ∷ bs) = b == 0 && zeros bs
+zeros bs = list_all (λ b. b == 0) bs
 
 -- every line is below n
 abbrev pub all_below : ℕ → List ℕ → Bool
-all_below n [] = true
-all_below n (l ∷ ls) = nat_lt l n && all_below n ls
+all_below n ls = list_all (λ l. nat_lt l n) ls
 
 -- the class of a record by its mark, its first byte
 abbrev pub class : ℕ → Option Class
@@ -118,3 +117,8 @@ one_more (Some FaultRecord) s = record { inputs = s.inputs; gates = s.gates; out
 
 abbrev pub counted : Seen → ℕ → Seen
 counted s mark = one_more (class mark) s
+
+-- what counting a record answers, and the counts then: it is the first test that the record does not pass
+abbrev pub Admitted : Seen → List ℕ → Seen → Result (Unit {0}) Trouble → Type 0
+Admitted s r s' (Ok _) = (trouble s r ≡ None) × (s' ≡ counted s (slice_index r 0))
+Admitted s r s' (Err t) = trouble s r ≡ Some t

@@ -1,6 +1,5 @@
 // A board as a device: what its machines answer at the outputs.
-ghost use Rattle.std.specs.Prelude.{◌≡◌, ℕ, ◌+◌, ◌^◌, ◌<◌, ◌≤◌, if◌then◌else◌};
-ghost use Rattle.boards.specs.Values.{is_zero, is_one};
+ghost use Rattle.std.specs.Prelude.{◌≡◌};
 ghost use Rattle.boards.specs.Cards.{seen_at, meaning};
 ghost use Rattle.boards.specs.Boards.{card_of};
 ghost use Rattle.boards.specs.Laws.{card_lawful};
@@ -12,34 +11,6 @@ use cubes::cube::Cube;
 use devices::answer::Answer;
 use devices::device::Device;
 
-fn zero(v: Value) -> bool
-    ensures { result ≡ is_zero v }
-{
-    match v {
-        Value::Zero => true,
-        Value::One => false,
-        Value::Unknown => false,
-    }
-}
-
-fn one(v: Value) -> bool
-    ensures { result ≡ is_one v }
-{
-    match v {
-        Value::Zero => false,
-        Value::One => true,
-        Value::Unknown => false,
-    }
-}
-
-// A mask with bit o set, or left as it is.
-fn with_bit(mask: u32, o: usize, on: bool) -> u32
-    requires { (o < 32) × (mask < 2 ^ o) }
-    ensures { result ≡ mask + (if on then 2 ^ o else 0) }
-{
-    if on { mask | 1 << o } else { mask }
-}
-
 impl Board {
     // What stands on the lines of the outputs.
     fn seen_at(&self, values: &[Value; 512]) -> Answer
@@ -47,10 +18,10 @@ impl Board {
     {
         let mut zeros = 0u32;
         let mut ones = 0u32;
-        for o in 0..self.outputs.len() {
-            let v = values[self.outputs[o] as usize];
-            zeros = with_bit(zeros, o, zero(v));
-            ones = with_bit(ones, o, one(v));
+        for (o, line) in self.outputs.iter().enumerate() {
+            let v = values[*line as usize];
+            zeros |= u32::from(v == Value::Zero) << o;
+            ones |= u32::from(v == Value::One) << o;
         }
         Answer { zeros, ones }
     }

@@ -1,14 +1,10 @@
-// A gate as a board keeps it, in a file of its own because its type bounds its pins.
-ghost use Rattle.std.specs.Prelude.{◌≡◌, ◌≤◌, length};
-
+// A gate as a board keeps it.
 use crate::parts::Kind;
+use arrayvec::ArrayVec;
 
-// A gate reads the lines of its first `count` places.
-#[derive(Clone, Copy, Debug, PartialEq, Eq)]
+// A gate reads the lines of its pins. Its memory is fixed, so that reading never fails for want of it.
+#[derive(Drop)]
 pub struct StoredGate {
     pub kind: Kind,
-    pub count: u16,
-    pub lines: [u16; 6],
-    ghost few: { count ≤ 6 },
-    ghost six: { length lines ≡ 6 },
+    pub pins: ArrayVec<u16, 6>,
 }

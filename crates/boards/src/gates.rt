@@ -1,11 +1,14 @@
 // What gates make of the values at their pins. The simulation asks here, once for each gate.
-ghost use Rattle.std.specs.Prelude.{◌≡◌, ℕ, ◌<◌, ◌≤◌, true, map, length, slice_index};
-ghost use Rattle.boards.specs.Values.{invert, and2, or2, xor2, conj, disj, parity, gate, single};
+ghost use Rattle.std.specs.Prelude.{◌≡◌, ◌<◌, true, map, length, All};
+ghost use Rattle.std.specs.List.{fold};
+ghost use Rattle.boards.specs.Values.{invert, and2, or2, xor2, only, gate, single};
+ghost use Rattle.boards.specs.declared.parts.Value.TheVariants.{Zero, One};
 ghost use Rattle.boards.specs.Cards.{read, pins_fit};
 ghost use Rattle.boards.specs.Wiring.{gate_of};
 
 use crate::gate::StoredGate;
 use crate::parts::{Kind, Value};
+use crate::pins::Pins;
 
 // The opposite value.
 fn inverse(v: Value) -> Value
@@ -22,13 +25,10 @@ fn inverse(v: Value) -> Value
 fn and(a: Value, b: Value) -> Value
     ensures { result ≡ and2 a b }
 {
-    match a {
-        Value::Zero => Value::Zero,
-        Value::One => b,
-        Value::Unknown => match b {
-            Value::Zero => Value::Zero,
-            Value::One | Value::Unknown => Value::Unknown,
-        },
+    match (a, b) {
+        (Value::Zero, _) | (_, Value::Zero) => Value::Zero,
+        (Value::One, Value::One) => Value::One,
+        _ => Value::Unknown,
     }
 }
 
@@ -36,13 +36,10 @@ fn and(a: Value, b: Value) -> Value
 fn or(a: Value, b: Value) -> Value
     ensures { result ≡ or2 a b }
 {
-    match a {
-        Value::Zero => b,
-        Value::One => Value::One,
-        Value::Unknown => match b {
-            Value::One => Value::One,
-            Value::Zero | Value::Unknown => Value::Unknown,
-        },
+    match (a, b) {
+        (Value::One, _) | (_, Value::One) => Value::One,
+        (Value::Zero, Value::Zero) => Value::Zero,
+        _ => Value::Unknown,
     }
 }
 
@@ -57,65 +54,77 @@ fn xor(a: Value, b: Value) -> Value
     }
 }
 
-// What an AND of these pins makes.
-fn all_of(pins: &[u16], values: &[Value; 512]) -> Value
-    requires { (k : ℕ) → k < length pins.now → slice_index pins.now k < 512 }
-    ensures { result ≡ conj (map (read values.now) pins.now) }
-{
-    let mut acc = Value::One;
-    for p in pins {
-        acc = and(acc, values[*p as usize]);
+impl Pins<'_> {
+    // What an AND of them makes.
+    fn all(&self) -> Value
+        ensures { result ≡ fold and2 One (map (read self.now.values.now) self.now.lines.now) }
+    {
+        let Pins { lines, values } = *self;
+        lines
+            .iter()
+            .map(|pin| values[*pin as usize])
+            .fold(Value::One, and)
     }
-    acc
-}
 
-// What an OR of these pins makes.
-fn any_of(pins: &[u16], values: &[Value; 512]) -> Value
-    requires { (k : ℕ) → k < length pins.now → slice_index pins.now k < 512 }
-    ensures { result ≡ disj (map (read values.now) pins.now) }
-{
-    let mut acc = Value::Zero;
-    for p in pins {
-        acc = or(acc, values[*p as usize]);
+    // What an OR of them makes.
+    fn any(&self) -> Value
+        ensures { result ≡ fold or2 Zero (map (read self.now.values.now) self.now.lines.now) }
+    {
+        let Pins { lines, values } = *self;
+        lines
+            .iter()
+            .map(|pin| values[*pin as usize])
+            .fold(Value::Zero, or)
     }
-    acc
-}
 
-// What an XOR of these pins makes.
-fn odd_of(pins: &[u16], values: &[Value; 512]) -> Value
-    requires { (k : ℕ) → k < length pins.now → slice_index pins.now k < 512 }
-    ensures { result ≡ parity (map (read values.now) pins.now) }
-{
-    let mut acc = Value::Zero;
-    for p in pins {
-        acc = xor(acc, values[*p as usize]);
+    // What an XOR of them makes.
+    fn odd(&self) -> Value
+        ensures { result ≡ fold xor2 Zero (map (read self.now.values.now) self.now.lines.now) }
+    {
+        let Pins { lines, values } = *self;
+        lines
+            .iter()
+            .map(|pin| values[*pin as usize])
+            .fold(Value::Zero, xor)
     }
-    acc
-}
 
-// What a gate of this kind makes of these pins.
-fn gate_value(kind: Kind, pins: &[u16], values: &[Value; 512]) -> Value
-    requires inside { (k : ℕ) → k < length pins.now → slice_index pins.now k < 512 }
-    requires single { single kind ≡ true → length pins.now ≡ 1 }
-    ensures { result ≡ gate kind (map (read values.now) pins.now) }
-{
-    match kind {
-        Kind::And => all_of(pins, values),
-        Kind::Or => any_of(pins, values),
-        Kind::Nand => inverse(all_of(pins, values)),
-        Kind::Nor => inverse(any_of(pins, values)),
-        Kind::Xor => odd_of(pins, values),
-        Kind::Xnor => inverse(odd_of(pins, values)),
-        Kind::Not => inverse(all_of(pins, values)),
-        Kind::Buf => all_of(pins, values),
+    // The value of the one pin.
+    #[tactic(auto, using(crate::specs::Pins::only_first))]
+    fn only(&self) -> Value
+        requires { length self.now.lines.now ≡ 1 }
+        ensures { result ≡ only (map (read self.now.values.now) self.now.lines.now) }
+    {
+        self.values[self.lines[0] as usize]
+    }
+
+    // What a gate of this kind makes of them.
+    #[tactic(auto, using(crate::specs::Pins::conj_fold, crate::specs::Pins::disj_fold, crate::specs::Pins::parity_fold))]
+    fn made(&self, kind: Kind) -> Value
+        requires { single kind ≡ true → length self.now.lines.now ≡ 1 }
+        ensures { result ≡ gate kind (map (read self.now.values.now) self.now.lines.now) }
+    {
+        match kind {
+            Kind::And => self.all(),
+            Kind::Or => self.any(),
+            Kind::Nand => inverse(self.all()),
+            Kind::Nor => inverse(self.any()),
+            Kind::Xor => self.odd(),
+            Kind::Xnor => inverse(self.odd()),
+            Kind::Not => inverse(self.only()),
+            Kind::Buf => self.only(),
+        }
     }
 }
 
 // What a stored gate makes of its pins.
 pub(crate) fn made_of(stored: &StoredGate, values: &[Value; 512]) -> Value
     requires count { pins_fit (gate_of stored.now).kind (length (gate_of stored.now).pins) ≡ true }
-    requires inside { (p : ℕ) → p < length (gate_of stored.now).pins → slice_index (gate_of stored.now).pins p < 512 }
+    requires inside { All (λ p. p < 512) (gate_of stored.now).pins }
     ensures { result ≡ gate (gate_of stored.now).kind (map (read values.now) (gate_of stored.now).pins) }
 {
-    gate_value(stored.kind, &stored.lines[0..stored.count as usize], values)
+    let pins = Pins {
+        lines: stored.pins.as_slice(),
+        values,
+    };
+    pins.made(stored.kind)
 }

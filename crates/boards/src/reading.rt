@@ -1,54 +1,33 @@
 // Reading a board file, in two passes: the first only looks, so that a refusal changes nothing; the second fills.
-ghost use Rattle.std.specs.Prelude.{◌≡◌, ℕ, ◌+◌, ◌*◌, ◌<◌, ◌≤◌, true, [], ◌∷◌, ◌++◌, length, take, Some, None};
+ghost use Rattle.std.specs.Prelude.{◌≡◌, ◌+◌, ◌<◌, true, [], ◌∷◌, ◌++◌, length, take, None};
 ghost use Rattle.boards.specs.Cards.{card, lines, pins_fit};
 ghost use Rattle.boards.specs.Boards.{card_of, no_card};
-ghost use Rattle.boards.specs.Records.{words, all_below, trouble as trouble_with, counts};
+ghost use Rattle.boards.specs.Records.{all_below, trouble, counts};
 ghost use Rattle.boards.specs.Scanning.{with_record, with_gate, Checked};
 ghost use Rattle.boards.specs.Reading.{Read};
 
 use crate::board::Board;
 use crate::gate::StoredGate;
+use crate::parted::Record;
 use crate::parts::{Class, Fault, Kind, Seen};
-use crate::records::{class_of, count_record, kind_at, trouble, word_of};
 use crate::refusal::Unread;
+use arrayvec::ArrayVec;
 
 // Looks through a whole file for the first bad record.
 fn check_all(bytes: &[u8]) -> Result<(), Unread>
     ensures { Checked bytes.now result }
 {
-    let records = bytes.len() / 16;
-    if bytes.len() % 16 != 0 {
-        return Err(Unread::NotWhole(records));
+    let (records, left) = bytes.as_chunks::<16>();
+    if !left.is_empty() {
+        return Err(Unread::NotWhole(records.len()));
     }
-    let mut seen = Seen {
-        inputs: 0,
-        gates: 0,
-        outputs: 0,
-        faults: 0,
-    };
-    for r in 0..records {
-        let one = &bytes[16 * r..16 * r + 16];
-        if let Some(t) = trouble(seen, one) {
+    let mut seen = Seen::default();
+    for (r, record) in records.iter().enumerate() {
+        if let Err(t) = seen.admit(record) {
             return Err(Unread::Bad(t, r));
         }
-        seen = count_record(seen, one[0]);
     }
     Ok(())
-}
-
-// The lines of a gate record's six places for pins.
-fn pin_lines(rest: &[u8]) -> [u16; 6]
-    requires { length rest.now ≡ 12 }
-    ensures { result ≡ words rest.now }
-{
-    [
-        word_of(rest[0], rest[1]),
-        word_of(rest[2], rest[3]),
-        word_of(rest[4], rest[5]),
-        word_of(rest[6], rest[7]),
-        word_of(rest[8], rest[9]),
-        word_of(rest[10], rest[11]),
-    ]
 }
 
 impl Board {
@@ -70,15 +49,15 @@ impl Board {
         self.inputs += 1;
     }
 
-    fn add_gate(&mut self, kind: Kind, count: u16, rest: &[u8])
+    fn add_gate(&mut self, kind: Kind, count: u16, pins: [u16; 6])
         requires few { lines (card_of self.old) < 512 }
-        requires twelve { length rest.now ≡ 12 }
         requires fits { pins_fit kind count ≡ true }
-        requires earlier { all_below (lines (card_of self.old)) (take count (words rest.now)) ≡ true }
-        ensures { card_of self.new ≡ with_gate (card_of self.old) kind (take count (words rest.now)) }
+        requires earlier { all_below (lines (card_of self.old)) (take count pins) ≡ true }
+        ensures { card_of self.new ≡ with_gate (card_of self.old) kind (take count pins) }
     {
-        let lines = pin_lines(rest);
-        self.gates.push_reserved(StoredGate { kind, count, lines });
+        let mut pins = ArrayVec::from(pins);
+        pins.truncate(count as usize);
+        self.gates.push_reserved(StoredGate { kind, pins });
     }
 
     fn add_output(&mut self, line: u16)
@@ -98,30 +77,25 @@ impl Board {
     }
 
     // Adds what a good record describes.
-    fn add(&mut self, bytes: &[u8])
-        requires sixteen { length bytes.now ≡ 16 }
-        requires good { trouble_with (counts (card_of self.old)) bytes.now ≡ None }
+    fn add(&mut self, bytes: &[u8; 16])
+        requires { trouble (counts (card_of self.old)) bytes.now ≡ None }
         ensures { card_of self.new ≡ with_record (card_of self.old) bytes.now }
     {
-        let [mark, field, lo, hi, rest @ ..] = bytes else {
+        let Ok(record) = Record::parted(bytes) else {
             return;
         };
-        let word = word_of(*lo, *hi);
-        let Some(class) = class_of(*mark) else {
-            return;
-        };
-        match class {
+        match record.class {
             Class::Input => self.add_input(),
             Class::Gate => {
-                let Some(kind) = kind_at(*field) else {
+                let Ok(kind) = Kind::try_from(record.field) else {
                     return;
                 };
-                self.add_gate(kind, word, rest)
+                self.add_gate(kind, record.word, record.pins())
             }
-            Class::Output => self.add_output(word),
+            Class::Output => self.add_output(record.word),
             Class::Fault => self.add_fault(Fault {
-                line: word,
-                stuck: *field == 1,
+                line: record.word,
+                stuck: record.field == 1,
             }),
         }
     }
@@ -132,8 +106,9 @@ impl Board {
     {
         check_all(bytes)?;
         self.clear();
-        for r in 0..bytes.len() / 16 {
-            self.add(&bytes[16 * r..16 * r + 16]);
+        let (records, _) = bytes.as_chunks::<16>();
+        for record in records {
+            self.add(record);
         }
         Ok(())
     }

@@ -1,72 +1,19 @@
 // One record of a board file: 16 bytes, taken apart and tested. Reading asks here, once for each record.
-ghost use Rattle.std.specs.Prelude.{◌≡◌, ℕ, ◌+◌, ◌*◌, ◌<◌, ◌≤◌, true, List, length, take, drop};
+ghost use Rattle.std.specs.Prelude.{◌≡◌, take, drop};
+ghost use Rattle.std.specs.Result.{result_err};
 ghost use Rattle.boards.specs.Cards.{pins_fit};
-ghost use Rattle.boards.specs.Values.{single as one_pin};
-ghost use Rattle.boards.specs.Records.{word as word_from, words, zeros, all_below, class, kind_of, gate_fits, in_order, has_room, field_fits, lines_exist, rest_zero, trouble_in, trouble as trouble_with, counted};
+ghost use Rattle.boards.specs.Records.{word as word_from, words, zeros, all_below, lines_seen, in_order, has_room, field_fits, lines_exist, rest_zero, trouble_in, Admitted};
+ghost use Rattle.boards.specs.Parted.{Parted};
 
-use crate::parts::{Class, Kind, Seen};
+use crate::parted::Record;
+use crate::parts::{Class, Kind, Seen, UnknownMark};
 use crate::refusal::Trouble;
 
 // A field of two bytes, the low byte first.
-pub(crate) fn word_of(lo: u8, hi: u8) -> u16
+fn word_of(lo: u8, hi: u8) -> u16
     ensures { result ≡ word_from lo hi }
 {
-    lo as u16 + 256 * hi as u16
-}
-
-// What a record describes, by its mark.
-pub(crate) fn class_of(mark: u8) -> Option<Class>
-    ensures { result ≡ class mark }
-{
-    match mark {
-        0x49 => Some(Class::Input),
-        0x47 => Some(Class::Gate),
-        0x4F => Some(Class::Output),
-        0x46 => Some(Class::Fault),
-        _ => None,
-    }
-}
-
-// The kind of a gate, by its byte.
-pub(crate) fn kind_at(byte: u8) -> Option<Kind>
-    ensures { result ≡ kind_of byte }
-{
-    match byte {
-        1 => Some(Kind::And),
-        2 => Some(Kind::Or),
-        3 => Some(Kind::Nand),
-        4 => Some(Kind::Nor),
-        5 => Some(Kind::Xor),
-        6 => Some(Kind::Xnor),
-        7 => Some(Kind::Not),
-        8 => Some(Kind::Buf),
-        _ => None,
-    }
-}
-
-// Whether the bytes from a place on are zero.
-fn zero_from(bytes: &[u8], from: usize) -> bool
-    ensures { result ≡ zeros (drop from bytes.now) }
-{
-    for k in from..bytes.len() {
-        if bytes[k] != 0 {
-            return false;
-        }
-    }
-    true
-}
-
-// Whether the lines of the first pins are earlier ones.
-fn pins_below(pins: &[u8], count: u16, lines: u16) -> bool
-    requires { 2 * count ≤ length pins.now }
-    ensures { result ≡ all_below lines (take count (words pins.now)) }
-{
-    for k in 0..count as usize {
-        if word_of(pins[2 * k], pins[2 * k + 1]) >= lines {
-            return false;
-        }
-    }
-    true
+    u16::from_le_bytes([lo, hi])
 }
 
 // Whether a gate of this kind can have so many pins.
@@ -74,156 +21,169 @@ fn pins_fit(kind: Kind, count: u16) -> bool
     ensures { result ≡ pins_fit kind count }
 {
     match kind {
-        Kind::Not => count == 1,
-        Kind::Buf => count == 1,
+        Kind::Not | Kind::Buf => count == 1,
         _ => (2 <= count) & (count <= 6),
     }
 }
 
-// Whether no record of a later class was seen.
-fn in_order(seen: Seen, class: Class) -> bool
-    ensures { result ≡ in_order seen class }
-{
-    match class {
-        Class::Input => (seen.gates == 0) & ((seen.outputs == 0) & (seen.faults == 0)),
-        Class::Gate => (seen.outputs == 0) & (seen.faults == 0),
-        Class::Output => seen.faults == 0,
-        Class::Fault => true,
+impl Record<'_> {
+    // Takes a record apart.
+    pub(crate) fn parted(bytes: &[u8; 16]) -> Result<Record<'_>, UnknownMark>
+        ensures { Parted bytes.now result }
+    {
+        // The pattern is on a slice since one on an array, which could not fail, gets no proof.
+        let [mark, field, lo, hi, rest @ ..] = bytes.as_slice() else {
+            unreachable!();
+        };
+        let class = Class::try_from(*mark)?;
+        Ok(Record {
+            class,
+            field: *field,
+            word: word_of(*lo, *hi),
+            rest,
+        })
+    }
+
+    // The lines of its six places for pins.
+    pub(crate) fn pins(&self) -> [u16; 6]
+        ensures { result ≡ words self.now.rest.now }
+    {
+        let rest = self.rest;
+        [
+            word_of(rest[0], rest[1]),
+            word_of(rest[2], rest[3]),
+            word_of(rest[4], rest[5]),
+            word_of(rest[6], rest[7]),
+            word_of(rest[8], rest[9]),
+            word_of(rest[10], rest[11]),
+        ]
+    }
+
+    // Whether gate kind and pin count, or stuck value, are ones that there are.
+    fn field_fits(&self) -> bool
+        ensures { result ≡ field_fits self.now.class self.now.field self.now.word }
+    {
+        match self.class {
+            Class::Input => true,
+            Class::Gate => match Kind::try_from(self.field) {
+                Ok(kind) => pins_fit(kind, self.word),
+                Err(_) => false,
+            },
+            Class::Output => true,
+            Class::Fault => self.field <= 1,
+        }
+    }
+
+    // Whether the lines of its pins are among the first ones, so many.
+    fn pins_below(&self, lines: u32) -> bool
+        ensures { result ≡ all_below lines (take self.now.word (words self.now.rest.now)) }
+    {
+        let pins = self.pins();
+        pins.iter()
+            .take(self.word as usize)
+            .all(|pin| u32::from(*pin) < lines)
+    }
+
+    // Whether the lines that it names exist already.
+    fn lines_exist(&self, seen: &Seen) -> bool
+        ensures { result ≡ lines_exist seen.now self.now.class self.now.word self.now.rest.now }
+    {
+        let lines = seen.lines();
+        match self.class {
+            Class::Input => true,
+            Class::Gate => self.pins_below(lines),
+            Class::Output => u32::from(self.word) < lines,
+            Class::Fault => u32::from(self.word) < lines,
+        }
+    }
+
+    // Whether the rest is zero from a place on.
+    fn zero_from(&self, from: usize) -> bool
+        ensures { result ≡ zeros (drop from self.now.rest.now) }
+    {
+        let rest = self.rest;
+        rest.iter().skip(from).all(|byte| *byte == 0)
+    }
+
+    // Whether the bytes that say nothing are zero.
+    fn rest_zero(&self) -> bool
+        ensures { result ≡ rest_zero self.now.class self.now.field self.now.word self.now.rest.now }
+    {
+        match self.class {
+            Class::Input => (self.field == 0) & ((self.word == 0) & self.zero_from(0)),
+            Class::Gate => self.zero_from(2 * self.word as usize),
+            Class::Output => (self.field == 0) & self.zero_from(0),
+            Class::Fault => self.zero_from(0),
+        }
     }
 }
 
-// Whether a board can have one more of the class.
-fn has_room(seen: Seen, class: Class) -> bool
-    requires { seen.inputs + seen.gates < 1000 }
-    ensures { result ≡ has_room seen class }
-{
-    match class {
-        Class::Input => seen.inputs < 16,
-        Class::Gate => seen.inputs + seen.gates < 512,
-        Class::Output => seen.outputs < 32,
-        Class::Fault => seen.faults < 255,
+impl Seen {
+    // How many lines the records make.
+    fn lines(&self) -> u32
+        ensures { result ≡ lines_seen self.now }
+    {
+        u32::from(self.inputs) + u32::from(self.gates)
     }
-}
 
-// Whether gate kind and pin count, or stuck value, are ones that there are.
-fn field_fits(class: Class, field: u8, word: u16) -> bool
-    ensures { result ≡ field_fits class field word }
-{
-    match class {
-        Class::Input => true,
-        Class::Gate => match kind_at(field) {
-            Some(kind) => pins_fit(kind, word),
-            None => false,
-        },
-        Class::Output => true,
-        Class::Fault => field <= 1,
+    // Whether no record of a later class was seen.
+    fn in_order(&self, class: Class) -> bool
+        ensures { result ≡ in_order self.now class }
+    {
+        match class {
+            Class::Input => (self.gates == 0) & ((self.outputs == 0) & (self.faults == 0)),
+            Class::Gate => (self.outputs == 0) & (self.faults == 0),
+            Class::Output => self.faults == 0,
+            Class::Fault => true,
+        }
     }
-}
 
-// Whether the lines that it names exist already.
-fn lines_exist(seen: Seen, class: Class, field: u8, word: u16, rest: &[u8]) -> bool
-    requires few { seen.inputs + seen.gates < 1000 }
-    requires twelve { length rest.now ≡ 12 }
-    requires fits { field_fits class field word ≡ true }
-    ensures { result ≡ lines_exist seen class word rest.now }
-{
-    let lines = seen.inputs + seen.gates;
-    match class {
-        Class::Input => true,
-        Class::Gate => pins_below(rest, word, lines),
-        Class::Output => word < lines,
-        Class::Fault => word < lines,
+    // Whether a board can have one more of the class.
+    fn has_room(&self, class: Class) -> bool
+        ensures { result ≡ has_room self.now class }
+    {
+        match class {
+            Class::Input => self.inputs < 16,
+            Class::Gate => self.lines() < 512,
+            Class::Output => self.outputs < 32,
+            Class::Fault => self.faults < 255,
+        }
     }
-}
 
-// Whether the bytes that say nothing are zero.
-fn rest_zero(class: Class, field: u8, word: u16, rest: &[u8]) -> bool
-    ensures { result ≡ rest_zero class field word rest.now }
-{
-    match class {
-        Class::Input => (field == 0) & ((word == 0) & zero_from(rest, 0)),
-        Class::Gate => zero_from(rest, 2 * word as usize),
-        Class::Output => (field == 0) & zero_from(rest, 0),
-        Class::Fault => zero_from(rest, 0),
+    // Refuses a record with the first test that it does not pass.
+    fn test(&self, next: &Record) -> Result<(), Trouble>
+        ensures { result_err result ≡ trouble_in next.now.class self.now next.now.field next.now.word next.now.rest.now }
+    {
+        if !self.in_order(next.class) {
+            return Err(Trouble::Misplaced);
+        }
+        if !self.has_room(next.class) {
+            return Err(Trouble::OneTooMany);
+        }
+        if !next.field_fits() {
+            return Err(Trouble::BadField);
+        }
+        if !next.lines_exist(self) {
+            return Err(Trouble::BadLine);
+        }
+        if !next.rest_zero() {
+            return Err(Trouble::NotZero);
+        }
+        Ok(())
     }
-}
 
-// The first test that a record of a class does not pass.
-fn trouble_in(class: Class, seen: Seen, field: u8, word: u16, rest: &[u8]) -> Option<Trouble>
-    requires few { seen.inputs + seen.gates < 1000 }
-    requires twelve { length rest.now ≡ 12 }
-    ensures { result ≡ trouble_in class seen field word rest.now }
-{
-    if !in_order(seen, class) {
-        return Some(Trouble::Misplaced);
-    }
-    if !has_room(seen, class) {
-        return Some(Trouble::OneTooMany);
-    }
-    if !field_fits(class, field, word) {
-        return Some(Trouble::BadField);
-    }
-    if !lines_exist(seen, class, field, word, rest) {
-        return Some(Trouble::BadLine);
-    }
-    if !rest_zero(class, field, word, rest) {
-        return Some(Trouble::NotZero);
-    }
-    None
-}
-
-// What is wrong with a record after those seen so far, if anything.
-pub(crate) fn trouble(seen: Seen, bytes: &[u8]) -> Option<Trouble>
-    requires few { seen.inputs + seen.gates < 1000 }
-    requires sixteen { length bytes.now ≡ 16 }
-    ensures { result ≡ trouble_with seen bytes.now }
-{
-    let [mark, field, lo, hi, rest @ ..] = bytes else {
-        return Some(Trouble::Misplaced);
-    };
-    let word = word_of(*lo, *hi);
-    match class_of(*mark) {
-        Some(class) => trouble_in(class, seen, *field, word, rest),
-        None => Some(Trouble::Misplaced),
-    }
-}
-
-// The counts with one record more.
-pub(crate) fn count_record(seen: Seen, mark: u8) -> Seen
-    requires { (seen.inputs < 1000) × ((seen.gates < 1000) × ((seen.outputs < 1000) × (seen.faults < 1000))) }
-    ensures { result ≡ counted seen mark }
-{
-    let Seen {
-        inputs,
-        gates,
-        outputs,
-        faults,
-    } = seen;
-    match class_of(mark) {
-        Some(Class::Input) => Seen {
-            inputs: inputs + 1,
-            gates,
-            outputs,
-            faults,
-        },
-        Some(Class::Gate) => Seen {
-            inputs,
-            gates: gates + 1,
-            outputs,
-            faults,
-        },
-        Some(Class::Output) => Seen {
-            inputs,
-            gates,
-            outputs: outputs + 1,
-            faults,
-        },
-        Some(Class::Fault) => Seen {
-            inputs,
-            gates,
-            outputs,
-            faults: faults + 1,
-        },
-        None => seen,
+    // Counts one record more, where nothing is wrong with it.
+    pub(crate) fn admit(&mut self, bytes: &[u8; 16]) -> Result<(), Trouble>
+        ensures { Admitted self.old bytes.now self.new result }
+    {
+        let record = Record::parted(bytes)?;
+        self.test(&record)?;
+        match record.class {
+            Class::Input => self.inputs += 1,
+            Class::Gate => self.gates += 1,
+            Class::Output => self.outputs += 1,
+            Class::Fault => self.faults += 1,
+        }
+        Ok(())
     }
 }

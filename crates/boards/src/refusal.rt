@@ -1,4 +1,8 @@
 // Why a file is no board.
+ghost use Rattle.std.specs.Prelude.{◌≡◌};
+ghost use Rattle.boards.specs.declared.refusal.Trouble.TheVariants.{Misplaced};
+
+use crate::parts::UnknownMark;
 
 // What is wrong with a record, in the order in which it is tested.
 #[derive(Clone, Copy, Debug, PartialEq, Eq)]
@@ -13,6 +17,14 @@ pub enum Trouble {
     BadLine,
     // A byte that should be zero is not.
     NotZero,
+}
+
+impl From<UnknownMark> for Trouble {
+    ghost from_gives = { λ _ trouble. trouble ≡ Misplaced };
+
+    fn from(_mark: UnknownMark) -> Trouble {
+        Trouble::Misplaced
+    }
 }
 
 // The file is no row of whole records (with the number of whole ones), or a record is bad (with its number from 0).

@@ -46,9 +46,11 @@ impl Unread {
 
     // Writes the line and its line feed from the start of a lent text, and answers its length; the rest of the
     // text stays, and nothing is written where it is too short.
+    #[tactic(auto, using(texts::proofs::Placing::decimal_length_le))]
     pub fn write_line(&self, text: &mut [u8]) -> Result<usize, TextTooShort>
         ensures { Lent (refused_line self.now) text.old text.new result }
     {
+        // Part by part and with its places counted, since the text is lent and nothing is written where it is too short.
         let number = self.number() as u64;
         let named = self.record() as u64;
         let blank = 8 + decimal_length(number);

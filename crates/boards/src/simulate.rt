@@ -1,5 +1,5 @@
 // Simulating a card at a cube, with at most one line stuck: the value of every line, in line order.
-ghost use Rattle.std.specs.Prelude.{◌≡◌, ℕ, ◌+◌, ◌<◌, ◌≤◌};
+ghost use Rattle.std.specs.Prelude.{◌≡◌, ◌+◌, ◌<◌};
 ghost use Rattle.boards.specs.Cards.{lines, given, fault, held, by_itself, read, Simulated};
 ghost use Rattle.boards.specs.Boards.{card_of};
 
@@ -27,16 +27,8 @@ fn held_value(fault: Option<Fault>, k: usize, free: Value) -> Value
     ensures { result ≡ held fault k free }
 {
     match fault {
-        None => free,
-        Some(f) => {
-            if f.line as usize != k {
-                free
-            } else if f.stuck {
-                Value::One
-            } else {
-                Value::Zero
-            }
-        }
+        Some(f) if f.line as usize == k => { if f.stuck { Value::One } else { Value::Zero } }
+        _ => free,
     }
 }
 
@@ -52,13 +44,7 @@ impl Board {
     fn fault_of(&self, machine: u16) -> Option<Fault>
         ensures { result ≡ fault (card_of self.now) machine }
     {
-        if machine == 0 {
-            return None;
-        }
-        if machine as usize > self.faults.len() {
-            return None;
-        }
-        Some(self.faults[machine as usize - 1])
+        self.faults.get((machine as usize).checked_sub(1)?).copied()
     }
 
     // What line k has by itself, from the values of the lines before it.
@@ -79,6 +65,7 @@ impl Board {
     {
         let fault = self.fault_of(machine);
         let mut values = [Value::Unknown; 512];
+        // An index, since the lines are filled in line order, each from those before it.
         for k in 0..self.lines() {
             let free = self.own_value(k, cube, &values);
             values[k] = held_value(fault, k, free);

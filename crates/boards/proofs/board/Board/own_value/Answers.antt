@@ -1,10 +1,10 @@
-use Rattle.std.proofs.Common.{◌≡◌, ℕ, ◌-◌, ◌<◌, ◌≤◌, true, map, length, get_or, vec_items, sym, ap, ◌∙◌, subst, arith}
+use Rattle.std.proofs.Common.{◌≡◌, ℕ, ◌-◌, ◌<◌, ◌≤◌, true, length, get_or, vec_items, sym, ap, ◌∙◌, subst, arith}
+use Rattle.std.specs.List.{All}
 use Rattle.std.proofs.lemmas.List.{get_or-map}
-use Rattle.std.proofs.lemmas.Bool.{le-ltb}
+use Rattle.std.proofs.lemmas.List.Elements.{All-from_get_or}
 use Rattle.boards.specs.declared.board.Board.{Board}
 use Rattle.boards.specs.declared.gate.StoredGate.{StoredGate}
-use Rattle.boards.specs.Values.{gate}
-use Rattle.boards.specs.Cards.{Gate, lines, gate_at, no_gate, pins_fit, read}
+use Rattle.boards.specs.Cards.{Gate, lines, gate_at, no_gate, pins_fit}
 use Rattle.boards.specs.Wiring.{gate_of}
 use Rattle.boards.specs.Boards.{card_of}
 use Rattle.boards.specs.Soundness.{lines_of, sound}
@@ -14,24 +14,18 @@ use Rattle.boards.proofs.board.Board.own_value.Goals as goal
 stored_at : (b : Board) (k : ℕ) (g : StoredGate) → b.inputs ≤ k → k < lines (card_of b) → g ≡ get_or (vec_items b.gates) (k - b.inputs) g → gate_at (card_of b) k ≡ gate_of g
 stored_at b k g l h e = get_or-map gate_of (vec_items b.gates) (k - b.inputs) g no_gate (omega (arith, lines_of b)) ∙ ap gate_of (sym e)
 
-pub index-requires : goal.index-requires
-index-requires c = omega (arith, lines_of c.args.self.now, c.requires)
-
-pub made_of-requires : goal.made_of-requires
-made_of-requires c =
+pub made_of-requires-clause-count : goal.made_of-requires-clause-count
+made_of-requires-clause-count c =
     let b = c.args.self.now in
     let k = c.args.k in
-    let i = k - b.inputs in
-    let s = sound b in
-    let in' : i < length (card_of b).gates = omega (arith, c.requires) in
-    let e = stored_at b k c.index.result.now c.if-k-inputs.false c.requires c.index.ensures in
-    record {
-      count = subst (λ (g : Gate). pins_fit g.kind (length g.pins) ≡ true) e (s.pin_counts i in');
-      inside = subst (λ (g : Gate). (p : ℕ) → p < length g.pins → get_or g.pins p 0 < 512) e (λ p q. let t = s.earlier i p in' q in omega (arith, s.few_lines, c.requires));
-    }
+    let in' : k - b.inputs < length (card_of b).gates = omega (arith, c.requires) in
+    subst (λ (g : Gate). pins_fit g.kind (length g.pins) ≡ true) (stored_at b k c.index.result.now c.if-k-inputs.false c.requires c.index.ensures) ((sound b).pin_counts (k - b.inputs) in')
 
-pub returns : goal.returns
-returns c =
+pub made_of-requires-clause-inside : goal.made_of-requires-clause-inside
+made_of-requires-clause-inside c =
     let b = c.args.self.now in
-    let e = stored_at b c.args.k c.index.result.now c.if-k-inputs.false c.requires c.index.ensures in
-    c.made_of.ensures ∙ ap (λ (g : Gate). gate g.kind (map (read c.args.values.now) g.pins)) (sym e) ∙ rw (le-ltb c.args.k b.inputs c.if-k-inputs.false)
+    let k = c.args.k in
+    let s = sound b in
+    let in' : k - b.inputs < length (card_of b).gates = omega (arith, c.requires) in
+    subst (λ (g : Gate). All (λ p. p < 512) g.pins) (stored_at b k c.index.result.now c.if-k-inputs.false c.requires c.index.ensures)
+    (All-from_get_or (λ p. p < 512) (gate_at (card_of b) k).pins 0 (λ p q. let t = s.earlier (k - b.inputs) p in' q in omega (arith, s.few_lines, c.requires)))

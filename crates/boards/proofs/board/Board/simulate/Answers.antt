@@ -12,9 +12,6 @@ use Rattle.boards.proofs.board.Board.simulate.Goals as goal
 pub loop-k-init : goal.loop-k-init
 loop-k-init c = (refl, nowhere Unknown 512)
 
-pub bounds-values-k : goal.bounds-values-k
-bounds-values-k c = omega (arith, (sound c.args.self.now).few_lines)
-
 pub loop-k-preserved : goal.loop-k-preserved
 loop-k-preserved c =
     let b = c.args.self.now in

@@ -1,7 +1,7 @@
 use Rattle.std.proofs.Common.{◌≡◌, ℕ, ◌+◌, ◌≤◌, List, [], ◌∷◌, ◌++◌, length, set, codes, decimal, refl, ap, ◌∙◌, append_assoc, arith}
 use Rattle.std.proofs.lemmas.List.{length-append}
 use Rattle.texts.specs.Texts.{placed}
-use Rattle.texts.proofs.Placing.{placed_append, placed_start, decimal_length_le}
+use Rattle.texts.proofs.Placing.{placed_append, placed_start}
 use Rattle.boards.specs.Refusing.{number, named, refused_line}
 use Rattle.boards.proofs.refusal.Unread.write_line.Goals as goal
 
@@ -42,35 +42,9 @@ module _ (t : List ℕ) (n r : ℕ) where
       ∙ next t ((front ++ (32 ∷ [])) ++ decimal r) (10 ∷ []) end (omega arith)
       ∙ ap (placed t 0) (parts (codes "refused ") (decimal n) (32 ∷ []) (decimal r) (10 ∷ []))
 
-pub overflow_add-blank : goal.overflow_add-blank
-overflow_add-blank c = let n = decimal_length_le c.number-number.result (omega arith) in omega (arith, c.decimal_length-blank.ensures)
-
-pub overflow_add-end : goal.overflow_add-end
-overflow_add-end c = let n = decimal_length_le c.number-number.result (omega arith) in omega (arith, c.decimal_length-blank.ensures)
-
-pub overflow_add-end-2 : goal.overflow_add-end-2
-overflow_add-end-2 c =
-    let n = decimal_length_le c.number-number.result (omega arith) in
-    let r = decimal_length_le c.record-named.result (omega arith) in
-    omega (arith, c.decimal_length-blank.ensures, c.decimal_length.ensures)
-
-pub overflow_add-end-3 : goal.overflow_add-end-3
-overflow_add-end-3 c =
-    let n = decimal_length_le c.number-number.result (omega arith) in
-    let r = decimal_length_le c.record-named.result (omega arith) in
-    omega (arith, c.decimal_length-blank.ensures, c.decimal_length.ensures)
-
 -- the length of a number that a call gave
 measured : (l n m : ℕ) → l ≡ length (decimal n) → n ≡ m → l ≡ length (decimal m)
 measured l n m e p = e ∙ ap (λ k. length (decimal k)) p
-
-pub returns-then-text-end : goal.returns-then-text-end
-returns-then-text-end c =
-    let u = c.args.self.now in
-    let a = measured _ _ _ c.decimal_length-blank.ensures c.number-number.ensures in
-    let b = measured _ _ _ c.decimal_length.ensures c.record-named.ensures in
-    let l = line_length c.args.text.now (number u) (named u) in
-    (omega (arith, c.if-text-end.true), refl)
 
 pub returns : goal.returns
 returns c =

@@ -1,7 +1,0 @@
-use Rattle.std.proofs.Common.{◌≡◌, map, take}
-use Rattle.boards.specs.Values.{conj}
-use Rattle.boards.specs.Cards.{read}
-use Rattle.boards.proofs.gates.all_of.Given as goal
-
-abbrev pub invariant-loop-p : goal.invariant-loop-p
-invariant-loop-p l = l.acc ≡ conj (map (read l.values) (take l.p-index l.pins))

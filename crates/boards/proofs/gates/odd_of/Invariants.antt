@@ -1,7 +1,0 @@
-use Rattle.std.proofs.Common.{◌≡◌, map, take}
-use Rattle.boards.specs.Values.{parity}
-use Rattle.boards.specs.Cards.{read}
-use Rattle.boards.proofs.gates.odd_of.Given as goal
-
-abbrev pub invariant-loop-p : goal.invariant-loop-p
-invariant-loop-p l = l.acc ≡ parity (map (read l.values) (take l.p-index l.pins))
