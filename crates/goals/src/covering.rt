@@ -1,20 +1,29 @@
-// The smallest vector that covers a duty. The set of vectors that it walks through is known here alone.
-ghost use Rattle.std.specs.Prelude.{◌≡◌, ◌<◌};
+// The smallest vector that covers a duty.
+ghost use Rattle.std.specs.Prelude.{◌≡◌};
 ghost use Rattle.cubes.specs.Searching.{First};
 ghost use Rattle.goals.specs.Goals.{vectors, covered_at};
 
 use crate::goal::Goal;
 use cubes::cube::Cube;
 use cubes::mask::Mask;
+use cubes::walk::{Question, first};
 
-// Whether the vector with this number covers the duty.
-pub(crate) fn covered_at<G: Goal>(goal: &G, duty: u32, number: Mask) -> bool
-    requires { number < vectors (G.means goal.now) }
-    ensures { result ≡ covered_at (G.means goal.now) duty number }
-{
-    match Cube::vector(goal.inputs(), number) {
-        Some(cube) => goal.covers(cube, duty),
-        None => false,
+// The question which vectors cover a duty.
+#[derive(Clone, Copy)]
+struct Duty<'a, G> {
+    goal: &'a G,
+    duty: u32,
+}
+
+impl<'a, G: Goal> Question for Duty<'a, G> {
+    ghost asks = { λ q. record { inputs = (G.Goal.means q.goal.now).inputs; passes = covered_at (G.Goal.means q.goal.now) q.duty } };
+
+    fn inputs(&self) -> u8 {
+        self.goal.inputs()
+    }
+
+    fn passes(&self, cube: Cube) -> bool {
+        self.goal.covers(cube, self.duty)
     }
 }
 
@@ -22,11 +31,5 @@ pub(crate) fn covered_at<G: Goal>(goal: &G, duty: u32, number: Mask) -> bool
 pub fn smallest_covering<G: Goal>(goal: &G, duty: u32) -> Option<Mask>
     ensures { First (vectors (G.means goal.now)) (covered_at (G.means goal.now) duty) result }
 {
-    for number in 0..1u32 << goal.inputs() {
-        let number = number as Mask;
-        if covered_at(goal, duty, number) {
-            return Some(number);
-        }
-    }
-    None
+    first(&Duty { goal, duty })
 }

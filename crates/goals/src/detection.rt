@@ -53,9 +53,8 @@ impl<D: Device> Goal for Detection<D> {
     fn mark(&self, cube: Cube, marks: &mut [bool]) {
         let good = self.device.answer(0, cube);
         let count = self.duties() as usize;
-        for duty in 0..marks.len() {
-            marks[duty] = duty < count
-                && told_apart(good, self.device.answer(duty as u16 + 1, cube));
+        for (duty, mark) in marks.iter_mut().enumerate() {
+            *mark = duty < count && told_apart(good, self.device.answer(duty as u16 + 1, cube));
         }
     }
 }

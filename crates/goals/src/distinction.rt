@@ -26,40 +26,69 @@ impl<D> Distinction<D> {
     }
 }
 
-// How many pairs n + 1 machines have.
-fn pair_count(n: u16) -> u32
-    requires { n ≤ 254 }
-    ensures { result ≡ length (pairs 1 n) }
-{
-    let n = u32::from(n);
-    n * (n + 1) / 2
+// The pairs of machines 1 to n + 1.
+#[derive(Clone, Copy)]
+struct Pairs {
+    n: u16,
+    ghost few: { n ≤ 254 },
 }
 
-// The pair with a number, among machines 1 to n + 1.
-fn pair_of(n: u16, duty: u32) -> Option<(u16, u16)>
-    requires { n ≤ 254 }
-    ensures { result ≡ slice_get (pairs 1 n) duty }
-{
-    let mut first: u16 = 1;
-    let mut left = n;
-    let mut beyond = duty;
-    while left > 0 {
-        if beyond < u32::from(left) {
-            return Some((first, first + 1 + beyond as u16));
+impl Pairs {
+    // Those of a device's faulty machines.
+    fn of<D: Device>(device: &D) -> Pairs
+        ensures { result.n ≡ (D.Device.means device.now).machines - 2 }
+    {
+        Pairs {
+            n: device.machines().saturating_sub(2),
         }
-        beyond -= u32::from(left);
-        left -= 1;
-        first += 1;
     }
-    None
-}
 
-// How many faulty machines come after the first.
-fn others<D: Device>(device: &D) -> u16
-    ensures value { result ≡ (D.Device.means device.now).machines - 2 }
-    ensures few { result ≤ 254 }
-{
-    device.machines().saturating_sub(2)
+    // How many there are.
+    fn count(&self) -> u32
+        ensures { result ≡ length (pairs 1 self.now.n) }
+    {
+        let n = u32::from(self.n);
+        n * (n + 1) / 2
+    }
+
+    // The pair with a number.
+    fn at(&self, duty: u32) -> Option<(u16, u16)>
+        ensures { result ≡ slice_get (pairs 1 self.now.n) duty }
+    {
+        let mut beyond = duty;
+        for passed in 0..self.n {
+            let first = passed + 1;
+            let left = u32::from(self.n - passed);
+            if beyond < left {
+                return Some((first, first + 1 + beyond as u16));
+            }
+            beyond -= left;
+        }
+        None
+    }
+
+    // Compares the answers pair by pair.
+    fn mark(&self, answers: &[Answer], marks: &mut [bool])
+        requires { self.now.n + 2 ≤ length answers.now }
+        ensures { (d : ℕ) → d < length marks.new → slice_index_or marks.new d false ≡ tells_by answers.now (slice_get (pairs 1 self.now.n) d) }
+    {
+        let top = self.n + 1;
+        let mut i: u16 = 1;
+        let mut j: u16 = 2;
+        for mark in marks.iter_mut() {
+            if i < top {
+                *mark = told_apart(answers[i as usize], answers[j as usize]);
+                if j < top {
+                    j += 1;
+                } else {
+                    i += 1;
+                    j = i + 1;
+                }
+            } else {
+                *mark = false;
+            }
+        }
+    }
 }
 
 // Asks each machine once.
@@ -67,33 +96,11 @@ fn ask_all<D: Device>(device: &D, cube: Cube, answers: &mut [Answer])
     requires { length answers.old ≡ 256 }
     ensures { Answered (D.Device.means device.now) cube answers.new }
 {
-    let machines = device.machines();
-    for machine in 0..machines {
-        answers[machine as usize] = device.answer(machine, cube);
-    }
-}
-
-// Compares the answers pair by pair.
-fn mark_pairs(n: u16, answers: &[Answer], marks: &mut [bool])
-    requires few { n ≤ 254 }
-    requires all { n + 2 ≤ length answers.now }
-    ensures { (d : ℕ) → d < length marks.new → slice_index_or marks.new d false ≡ tells_by answers.now (slice_get (pairs 1 n) d) }
-{
-    let top = n + 1;
-    let mut i: u16 = 1;
-    let mut j: u16 = 2;
-    for d in 0..marks.len() {
-        if i < top {
-            marks[d] = told_apart(answers[i as usize], answers[j as usize]);
-            if j < top {
-                j += 1;
-            } else {
-                i += 1;
-                j = i + 1;
-            }
-        } else {
-            marks[d] = false;
-        }
+    for (machine, answer) in answers[..usize::from(device.machines())]
+        .iter_mut()
+        .enumerate()
+    {
+        *answer = device.answer(machine as u16, cube);
     }
 }
 
@@ -107,7 +114,7 @@ impl<D: Device> Goal for Distinction<D> {
     }
 
     fn duties(&self) -> u32 {
-        pair_count(others(&self.device))
+        Pairs::of(&self.device).count()
     }
 
     fn wanted(&self, duty: u32) -> bool {
@@ -115,7 +122,7 @@ impl<D: Device> Goal for Distinction<D> {
     }
 
     fn covers(&self, cube: Cube, duty: u32) -> bool {
-        match pair_of(others(&self.device), duty) {
+        match Pairs::of(&self.device).at(duty) {
             Some((i, j)) => told_apart(self.device.answer(i, cube), self.device.answer(j, cube)),
             None => false,
         }
@@ -125,6 +132,6 @@ impl<D: Device> Goal for Distinction<D> {
     fn mark(&self, cube: Cube, marks: &mut [bool]) {
         let mut answers = [Answer { zeros: 0, ones: 0 }; 256];
         ask_all(&self.device, cube, &mut answers);
-        mark_pairs(others(&self.device), &answers, marks);
+        Pairs::of(&self.device).mark(&answers, marks);
     }
 }

@@ -26,12 +26,7 @@ impl NotExcused {
 fn is_named(duties: &[u32], duty: u32) -> bool
     ensures { result ≡ names duties.now duty }
 {
-    for named in duties {
-        if *named == duty {
-            return true;
-        }
-    }
-    false
+    duties.contains(&duty)
 }
 
 impl<G: Goal> Excused<G> {

@@ -26,8 +26,8 @@ pub trait Goal {
         ensures { Marked (means self.now) cube marks.new }
     {
         let count = self.duties() as usize;
-        for duty in 0..marks.len() {
-            marks[duty] = duty < count && self.covers(cube, duty as u32);
+        for (duty, mark) in marks.iter_mut().enumerate() {
+            *mark = duty < count && self.covers(cube, duty as u32);
         }
     }
 

@@ -24,8 +24,8 @@ impl<G, H> Joined<G, H> {
 fn clear_from(marks: &mut [bool], from: usize)
     ensures { (k : ℕ) → k < length marks.new → slice_index_or marks.new k false ≡ (nat_lt k from && slice_index_or marks.old k false) }
 {
-    for d in 0..marks.len() {
-        marks[d] = (d < from) & marks[d];
+    for (d, mark) in marks.iter_mut().enumerate() {
+        *mark = d < from && *mark;
     }
 }
 

@@ -1,6 +1,0 @@
-use Rattle.std.proofs.Common.{◌+◌, ◌*◌, ◌/◌, ap, ◌∙◌}
-use Rattle.goals.specs.Pairs.{pairs_length}
-use Rattle.goals.proofs.distinction.pair_count.Goals as goal
-
-pub returns : goal.returns
-returns c = ap (λ k. k * (k + 1) / 2) c.from-n.ensures ∙ pairs_length c.args.n 1
