@@ -4,3 +4,4 @@ pub mod Pigeons
 pub mod Clashes
 pub mod Verdicts
 pub mod Bounding
+pub mod Firsts

@@ -3,9 +3,8 @@ ghost use Rattle.std.specs.Prelude.{◌≡◌};
 ghost use Rattle.claims.specs.Claims.{verdict, number};
 ghost use Rattle.claims.specs.Bounds.{Bound};
 
-use crate::places::{first_named_before, first_no_such, first_uncoverable, first_unwanted};
+use crate::named::Named;
 use crate::refusal::ClaimRefusal;
-use crate::together::first_clash;
 use goals::goal::Goal;
 
 // The most duties that a claim may name.
@@ -18,14 +17,11 @@ impl ClaimRefusal {
     {
         match self {
             ClaimRefusal::TooMany => 34,
-            ClaimRefusal::NoSuchDuty { place: _ } => 29,
-            ClaimRefusal::NamedBefore { place: _ } => 30,
-            ClaimRefusal::NotWanted { place: _ } => 31,
-            ClaimRefusal::NotCoverable { place: _ } => 32,
-            ClaimRefusal::CoveredTogether {
-                earlier: _,
-                later: _,
-            } => 33,
+            ClaimRefusal::NoSuchDuty { .. } => 29,
+            ClaimRefusal::NamedBefore { .. } => 30,
+            ClaimRefusal::NotWanted { .. } => 31,
+            ClaimRefusal::NotCoverable { .. } => 32,
+            ClaimRefusal::CoveredTogether { .. } => 33,
         }
     }
 }
@@ -38,19 +34,20 @@ pub fn claim<G: Goal>(goal: &G, duties: &[u32]) -> Result<u16, ClaimRefusal>
     if duties.len() > MOST {
         return Err(ClaimRefusal::TooMany);
     }
-    if let Some(place) = first_no_such(goal, duties) {
+    let claimed = Named { goal, duties };
+    if let Some(place) = claimed.first_no_such() {
         return Err(ClaimRefusal::NoSuchDuty { place });
     }
-    if let Some(place) = first_named_before(duties) {
+    if let Some(place) = claimed.first_named_before() {
         return Err(ClaimRefusal::NamedBefore { place });
     }
-    if let Some(place) = first_unwanted(goal, duties) {
+    if let Some(place) = claimed.first_unwanted() {
         return Err(ClaimRefusal::NotWanted { place });
     }
-    if let Some(place) = first_uncoverable(goal, duties) {
+    if let Some(place) = claimed.first_uncoverable() {
         return Err(ClaimRefusal::NotCoverable { place });
     }
-    match first_clash(goal, duties) {
+    match claimed.first_clash() {
         Some(x) => Err(ClaimRefusal::CoveredTogether {
             earlier: x.earlier,
             later: x.later,

@@ -3,6 +3,7 @@
 #![tactic(auto)]
 
 pub mod claiming;
+pub mod named;
 pub mod pair;
 pub mod places;
 pub mod refusal;

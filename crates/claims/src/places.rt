@@ -1,72 +1,59 @@
 // The first bad place of a claim, for each test over the whole list.
-ghost use Rattle.std.specs.Prelude.{◌≡◌, ℕ, ◌<◌, ◌≤◌, length};
-ghost use Rattle.claims.specs.Claims.{first_bad, no_such, named_before, unwanted, uncoverable};
+ghost use Rattle.std.specs.Prelude.{◌≡◌};
+ghost use Rattle.claims.specs.Claims.{coverable, first_bad, no_such, named_before, unwanted, uncoverable};
 
+use crate::named::Named;
 use goals::covering::smallest_covering;
 use goals::goal::Goal;
 
-// The first duty that there is none of.
-pub(crate) fn first_no_such<G: Goal>(goal: &G, duties: &[u32]) -> Option<u16>
-    requires { length duties.now ≤ 256 }
-    ensures { result ≡ first_bad duties.now (no_such (G.means goal.now) duties.now) }
+// Whether some vector covers the duty.
+fn is_coverable<G: Goal>(goal: &G, duty: u32) -> bool
+    ensures { result ≡ coverable (G.means goal.now) duty }
 {
-    let count = goal.duties();
-    for p in 0..duties.len() {
-        if duties[p] >= count {
-            return Some(p as u16);
-        }
-    }
-    None
+    smallest_covering(goal, duty).is_some()
 }
 
-// Whether the duty at a place is named before.
-fn is_named_before(duties: &[u32], p: usize) -> bool
-    requires { p < length duties.now }
-    ensures { result ≡ named_before duties.now p }
-{
-    for q in 0..p {
-        if duties[q] == duties[p] {
-            return true;
-        }
+impl<'a, G: Goal> Named<'a, G> {
+    // The first duty that there is none of.
+    pub(crate) fn first_no_such(&self) -> Option<u16>
+        ensures { result ≡ first_bad self.now.duties.now (no_such (G.means self.now.goal.now) self.now.duties.now) }
+    {
+        let count = self.goal.duties();
+        self.duties
+            .iter()
+            .position(|duty| *duty >= count)
+            .map(|place| place as u16)
     }
-    false
-}
 
-// The first duty that is named before.
-pub(crate) fn first_named_before(duties: &[u32]) -> Option<u16>
-    requires { length duties.now ≤ 256 }
-    ensures { result ≡ first_bad duties.now (named_before duties.now) }
-{
-    for p in 0..duties.len() {
-        if is_named_before(duties, p) {
-            return Some(p as u16);
+    // The first duty that is named before.
+    pub(crate) fn first_named_before(&self) -> Option<u16>
+        ensures { result ≡ first_bad self.now.duties.now (named_before self.now.duties.now) }
+    {
+        for (place, duty) in self.duties.iter().enumerate() {
+            if self.duties[..place].contains(duty) {
+                return Some(place as u16);
+            }
         }
+        None
     }
-    None
-}
 
-// The first duty that is not wanted.
-pub(crate) fn first_unwanted<G: Goal>(goal: &G, duties: &[u32]) -> Option<u16>
-    requires { length duties.now ≤ 256 }
-    ensures { result ≡ first_bad duties.now (unwanted (G.means goal.now) duties.now) }
-{
-    for p in 0..duties.len() {
-        if !goal.wanted(duties[p]) {
-            return Some(p as u16);
-        }
+    // The first duty that is not wanted.
+    pub(crate) fn first_unwanted(&self) -> Option<u16>
+        ensures { result ≡ first_bad self.now.duties.now (unwanted (G.means self.now.goal.now) self.now.duties.now) }
+    {
+        self.duties
+            .iter()
+            .position(|duty| !self.goal.wanted(*duty))
+            .map(|place| place as u16)
     }
-    None
-}
 
-// The first duty that no vector covers.
-pub(crate) fn first_uncoverable<G: Goal>(goal: &G, duties: &[u32]) -> Option<u16>
-    requires { length duties.now ≤ 256 }
-    ensures { result ≡ first_bad duties.now (uncoverable (G.means goal.now) duties.now) }
-{
-    for p in 0..duties.len() {
-        if smallest_covering(goal, duties[p]).is_none() {
-            return Some(p as u16);
-        }
+    // The first duty that no vector covers.
+    pub(crate) fn first_uncoverable(&self) -> Option<u16>
+        ensures { result ≡ first_bad self.now.duties.now (uncoverable (G.means self.now.goal.now) self.now.duties.now) }
+    {
+        self.duties
+            .iter()
+            .position(|duty| !is_coverable(self.goal, *duty))
+            .map(|place| place as u16)
     }
-    None
 }
