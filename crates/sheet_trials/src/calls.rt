@@ -2,7 +2,6 @@
 use crate::ones::Ones;
 use cubes::cube::Cube;
 use sheets::refusal::Refusal;
-use sheets::reply::Covered;
 use sheets::sheet::Sheet;
 use std::alloc::Global;
 use std::process::Abort;
@@ -27,9 +26,9 @@ pub(crate) fn listed(rt: &impl Abort, sheet: &Sheet<Ones>, expected: &[u8]) -> R
 #[test]
 fn covers_and_lists(rt: HostRuntime) -> Result<(), Fail> {
     let mut sheet = sheet(rt.alloc())?;
-    assert_eq!(rt; sheet.cover(1)?, Covered::Entered(1));
-    assert_eq!(rt; sheet.cover(1)?, Covered::Already);
-    assert_eq!(rt; sheet.cover(0)?, Covered::Entered(2));
+    assert_eq!(rt; sheet.cover(1)?, Some(1));
+    assert_eq!(rt; sheet.cover(1)?, None);
+    assert_eq!(rt; sheet.cover(0)?, Some(2));
     assert_eq!(rt; sheet.cover(2), Err(Refusal::NoSuchDuty));
     listed(&rt, &sheet, b"1 01\n2 10\n")
 }

@@ -3,6 +3,7 @@ use Rattle.std.proofs.Common.{◌≡◌, ℕ, ◌+◌, Bool, true, false, cond, 
 use lib.Bits.{bit_or}
 use Rattle.std.proofs.lemmas.Bool.{eqb-false, cases_Bool, or_parts, both_ways}
 use Rattle.std.proofs.lemmas.List.{append_assoc}
+use Rattle.std.proofs.lemmas.List.Folds.{list_any-append}
 use Rattle.cubes.specs.Masks.{bit}
 use Rattle.cubes.specs.Cubes.{vector, of_masks, Refines}
 use Rattle.cubes.specs.Searching.{least}
@@ -26,7 +27,7 @@ use Rattle.sheets.specs.Exchanging.{exchange, exchange_row}
 use Rattle.sheets.specs.Joining.{join, join_rows, join_two, join_cube}
 use Rattle.sheets.specs.Sweeping.{needed, keep, kept, sweep}
 use Rattle.sheets.specs.Running.{does, after}
-use Rattle.sheets.proofs.Coverage.{covered_append, covered_in_place, covered_replaced, covered_without, in_place_without, in_place_replaced, covered_by, row_of_other, row_of_same, row_of_without}
+use Rattle.sheets.proofs.Coverage.{covered_in_place, covered_replaced, covered_without, in_place_without, in_place_replaced, covered_by, row_of_other, row_of_same, row_of_without}
 
 -- a disjunction has the bits of both masks
 or_first : (a b i : ℕ) → bit a i ≡ 1 → bit (bit_or a b) i ≡ 1
@@ -46,7 +47,7 @@ module _ (m : Meaning) (law : Lawful m) where
       grind arith
 
   keeps_push : (xs : List Row) (r : Row) → Keeps xs (xs ++ (r ∷ []))
-  keeps_push xs r d w e = rw (covered_append m d xs (r ∷ [])) (let z = e in grind arith)
+  keeps_push xs r d w e = (let p = list_any-append (λ x. row_covers m x d) xs (r ∷ []) in grind arith)
 
   keeps_cond : (xs : List Row) (b : Bool) (o p : Outcome) → (b ≡ true → Keeps xs o.after.rows) → (b ≡ false → Keeps xs p.after.rows) → Keeps xs (cond b o p).after.rows
   keeps_cond xs true o p f g = f refl
@@ -193,7 +194,7 @@ module _ (m : Meaning) (law : Lawful m) where
           by true n = h
           by false n = elim (cases_Bool (row_covers m r d)) [
             | inl t ↦ covered_in_place m d (before ++ after) (not_needed r (before ++ after) n d w t)
-            | inr t ↦ (let p = covered_append m d before (r ∷ after) in let q = covered_append m d before after in grind arith)
+            | inr t ↦ (let p = list_any-append (λ x. row_covers m x d) before (r ∷ after) in let q = list_any-append (λ x. row_covers m x d) before after in grind arith)
           ]
 
   keeps_sweep : (s : State) → Keeps s.rows (sweep m s).after.rows

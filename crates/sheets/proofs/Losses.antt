@@ -1,12 +1,19 @@
 -- Duties taken off a list row by row, and that the first one left is the smallest that is lost.
-use Rattle.std.proofs.Common.{◌≡◌, ℕ, ◌+◌, ◌<◌, ◌≤◌, Bool, true, false, not, ◌&&◌, List, length, get_or, drop, arith}
+use Rattle.std.proofs.Common.{◌≡◌, ℕ, ◌+◌, ◌<◌, ◌≤◌, Bool, true, false, not, ◌&&◌, List, length, get_or, drop, Some, None, Option, arith}
+use Rattle.std.specs.List.{AllWithin, HoldsAt}
+use Rattle.std.specs.Option.{MatchOption}
 use Rattle.std.proofs.lemmas.List.{at_drop_more, at_drop_all}
 use Rattle.std.proofs.lemmas.Bool.{and_left}
 use Rattle.cubes.specs.Searching.{least}
-use Rattle.cubes.proofs.Searches.{least_further}
+use Rattle.cubes.proofs.Searches.{first_least, least_further}
 use Rattle.goals.specs.Goals.{Meaning, Lawful}
 use Rattle.sheets.specs.Sheets.{row_covers, in_place, loses, lost, no_row}
 use Rattle.sheets.specs.declared.row.Row.{Row}
+
+-- the first that is true
+pub first_true : (left : List Bool) (o : Option ℕ) → MatchOption o (AllWithin (λ b. b ≡ false) left 0 (length left)) (λ i. (i < length left) × HoldsAt (λ b. b ≡ true) left i × AllWithin (λ b. b ≡ false) left 0 i) → o ≡ least (length left) (λ d. get_or left d false)
+first_true left None h = first_least (length left) (λ d. get_or left d false) None (λ k l. h k false (omega arith) l)
+first_true left (Some i) h = first_least (length left) (λ d. get_or left d false) (Some i) (h.0, h.1 false, λ k l. h.2 k false (omega arith) l)
 
 -- what is lost lies below the count of duties
 pub lost_further : (m : Meaning) → Lawful m → (had has : ℕ → Bool) (left : List Bool) → m.duties ≤ length left → ((d : ℕ) → d < length left → get_or left d false ≡ loses m had has d) → least (length left) (λ d. get_or left d false) ≡ lost m had has

@@ -1,15 +1,18 @@
 -- After a sweep no row is spare: each row in place has a duty of its own.
 use Rattle.std.proofs.Common.{◌≡◌, ℕ, Bool, true, false, cond, not, ◌&&◌, List, [], ◌∷◌, ◌++◌, is_some, Some, None, Option, refl, arith}
 use Rattle.std.proofs.lemmas.List.{append_assoc}
+use Rattle.std.proofs.lemmas.List.Folds.{list_any-append}
 use Rattle.goals.specs.Goals.{Meaning}
 use Rattle.sheets.specs.Sheets.{row_covers, in_place, lost}
 use Rattle.sheets.specs.Sweeping.{needed, keep, kept}
 use Rattle.sheets.specs.Running.{NoneSpare}
 use Rattle.sheets.specs.declared.row.Row.{Row}
 use Rattle.cubes.proofs.Searches.{least_some}
-use Rattle.sheets.proofs.Coverage.{in_place_append}
 
 module _ (m : Meaning) where
+  abbrev covers_in_place : ℕ → Row → Bool
+  covers_in_place d r = not r.out && row_covers m r d
+
   abbrev Own : Row → List Row → Type 0
   Own r others = (d : ℕ) × (m.wanted d ≡ true) × (row_covers m r d ≡ true) × (in_place m others d ≡ false)
 
@@ -32,7 +35,7 @@ module _ (m : Meaning) where
   fewer b a (r ∷ rs) f l = (λ o. (let w = l.0 o in (w.0, w.1, w.2, less rs w.0 w.3)), fewer (b ++ (r ∷ [])) (a ++ (r ∷ [])) rs (less (r ∷ [])) l.1)
     where
       less : (xs : List Row) (d : ℕ) → in_place m (b ++ xs) d ≡ false → in_place m (a ++ xs) d ≡ false
-      less xs d e = let g = f d in let p = in_place_append m d b xs in let q = in_place_append m d a xs in grind arith
+      less xs d e = let g = f d in let p = list_any-append (covers_in_place d) b xs in let q = list_any-append (covers_in_place d) a xs in grind arith
 
   none_spare_kept : (before rows : List Row) → NoneSpareFrom before (kept m before rows)
   none_spare_kept before [] = tt
@@ -43,7 +46,7 @@ module _ (m : Meaning) where
         where
           by : (b : Bool) → needed m r (before ++ after) ≡ b → NoneSpareFrom before (cond b (r ∷ after) after)
           by true n = (own r (before ++ after) n, l)
-          by false n = fewer (before ++ (r ∷ [])) before after (λ d e. (let p = in_place_append m d before (r ∷ []) in grind arith)) l
+          by false n = fewer (before ++ (r ∷ [])) before after (λ d e. (let p = list_any-append (covers_in_place d) before (r ∷ []) in grind arith)) l
 
   at_split : (before xs ys : List Row) (r : Row) → NoneSpareFrom before (xs ++ (r ∷ ys)) → r.out ≡ false → Own r (before ++ (xs ++ ys))
   at_split before [] ys r l o = l.0 o

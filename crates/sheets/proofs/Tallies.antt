@@ -1,8 +1,8 @@
 -- How often the rows in place cover each duty, and what a true tally says of a row: whether it alone covers a wanted
 -- duty, and what the tally is without it.
-use Rattle.std.proofs.Common.{◌≡◌, ℕ, zero, suc, ◌+◌, ◌<◌, ◌≤◌, Bool, true, false, cond, not, ◌&&◌, ◌||◌, eqb, ltb, List, [], ◌∷◌, length, get_or, is_some, None, sym, refl, ap, ◌∙◌, subst, zero-add, arith}
+use Rattle.std.proofs.Common.{◌≡◌, ℕ, zero, suc, ◌+◌, ◌<◌, ◌≤◌, Bool, true, false, cond, not, ◌&&◌, eqb, ltb, List, [], ◌∷◌, length, get_or, is_some, None, sym, refl, ap, ◌∙◌, arith}
 use Rattle.std.specs.List.{remove}
-use Rattle.std.proofs.lemmas.Bool.{and_left, and_from, eq-eqb}
+use Rattle.std.proofs.lemmas.Bool.{and_left}
 use Rattle.std.proofs.lemmas.Bool.Decides.{nat_tests}
 use Rattle.cubes.proofs.Searches.{first_least, least_further, least_found}
 use Rattle.goals.specs.Goals.{Meaning, Lawful}
@@ -17,14 +17,10 @@ sole m counts marks d = get_or marks d false && (eqb (get_or counts d 0) 1 && m.
 pub sole_here : (m : Meaning) (counts : List ℕ) (marks : List Bool) (d : ℕ) → d < length counts → get_or marks d false ≡ true → get_or counts d 0 ≡ 1 → m.wanted d ≡ true → has_sole m counts marks ≡ true
 sole_here m counts marks d l k c w =
     least_found (length counts) (sole m counts marks) d l
-    (and_from (get_or marks d false) (eqb (get_or counts d 0) 1 && m.wanted d) k (and_from (eqb (get_or counts d 0) 1) (m.wanted d) (eq-eqb (get_or counts d 0) 1 c) w))
+    (grind (arith, nat_tests))
 
 pub none_sole : (m : Meaning) (counts : List ℕ) (marks : List Bool) → ((d : ℕ) → d < length counts → sole m counts marks d ≡ false) → has_sole m counts marks ≡ false
 none_sole m counts marks h = sym (ap is_some (first_least (length counts) (sole m counts marks) None h))
-
--- a tally is true of equal rows with equal counts
-pub tallied_same : (m : Meaning) (xs ys : List Row) (a b : List ℕ) → ys ≡ xs → b ≡ a → Tallied m xs a → Tallied m ys b
-tallied_same m xs ys a b p q t = subst (λ l. Tallied m l b) (sym p) (subst (Tallied m xs) (sym q) t)
 
 -- a row is judged by a tally: it is in place at i, the tally is that of the rows, and the marks are those of the row
 pub record Judged (m : Meaning) (xs : List Row) (i : ℕ) (r : Row) (counts : List ℕ) (marks : List Bool) : Type 0 where
@@ -37,21 +33,10 @@ pub record Judged (m : Meaning) (xs : List Row) (i : ℕ) (r : Row) (counts : Li
   pub marked : RowMarked m r marks
 
 module _ (m : Meaning) where
-  -- a row that is out counts for nothing, and one in place for each duty that it covers
-  pub times_out : (r : Row) (rs : List Row) (d : ℕ) → r.out ≡ true → times m (r ∷ rs) d ≡ times m rs d
-  times_out r rs d o = rw o (zero-add (times m rs d))
-
-  pub times_in : (r : Row) (rs : List Row) (d : ℕ) → r.out ≡ false → times m (r ∷ rs) d ≡ cond (row_covers m r d) 1 0 + times m rs d
-  times_in r rs d o = rw o
-
   -- a row in place covers a duty where the count is not 0
   in_place_times : (xs : List Row) (d : ℕ) → in_place m xs d ≡ ltb 0 (times m xs d)
   in_place_times [] d = refl
-  in_place_times (r ∷ rs) d = step (not r.out && row_covers m r d) (in_place_times rs d)
-    where
-      step : (b : Bool) → in_place m rs d ≡ ltb 0 (times m rs d) → (b || in_place m rs d) ≡ ltb 0 (cond b 1 0 + times m rs d)
-      step true h = grind (arith, nat_tests)
-      step false h = grind (arith, nat_tests)
+  in_place_times (r ∷ rs) d = let ih = in_place_times rs d in grind (arith, nat_tests)
 
   -- the count without row i
   times_removed : (xs : List Row) (i d : ℕ) → i < length xs → times m (remove xs i) d + cond (not (get_or xs i no_row).out && row_covers m (get_or xs i no_row) d) 1 0 ≡ times m xs d
@@ -71,13 +56,12 @@ module _ (m : Meaning) where
     mark d l = j.marked d (omega arith)
 
     sole_loses : (d : ℕ) → d < length counts → sole m counts marks d ≡ loses m (row_covers m r) (in_place m (remove xs i)) d
-    sole_loses d l = ap (λ b. b && (eqb (get_or counts d 0) 1 && m.wanted d)) (mark d l) ∙ step (row_covers m r d) (m.wanted d) (times_less d)
-      where
-        step : (b w : Bool) → times m (remove xs i) d + cond b 1 0 ≡ times m xs d → (b && (eqb (get_or counts d 0) 1 && w)) ≡ (w && (b && not (in_place m (remove xs i) d)))
-        step true true e = let c = j.tallied d l in let p = in_place_times (remove xs i) d in grind (arith, nat_tests)
-        step true false e = grind (arith, nat_tests)
-        step false true e = refl
-        step false false e = refl
+    sole_loses d l =
+        let k = mark d l in
+        let c = j.tallied d l in
+        let p = in_place_times (remove xs i) d in
+        let t = times_less d in
+        grind (arith, nat_tests)
 
     -- the row is needed exactly where it alone covers a wanted duty
     sole_needed : Lawful m → has_sole m counts marks ≡ needed m (get_or xs i no_row) (remove xs i)
@@ -97,14 +81,14 @@ module _ (m : Meaning) where
     counted d l e =
         let q = times_less d in
         let c = j.tallied d l in
-        let u : ◌≡◌ {A = ℕ} (cond (row_covers m r d) 1 0) 1 = ap (λ (b : Bool). cond {A = ℕ} b 1 0) (sym (mark d l) ∙ e) in
-        omega arith
+        let k = mark d l in
+        grind (arith, nat_tests)
 
     -- one less for each duty that it covers is the tally of the others
     pub untallied : (after : List ℕ) → length after ≡ length counts → ((d : ℕ) → d < length after → get_or after d 0 + cond (get_or marks d false) 1 0 ≡ get_or counts d 0) → Tallied m (remove xs i) after
     untallied after n f d l =
         let q = times_less d in
         let c = j.tallied d (omega arith) in
+        let k = mark d (omega arith) in
         let g = f d l in
-        let u : ◌≡◌ {A = ℕ} (cond (get_or marks d false) 1 0) (cond (row_covers m r d) 1 0) = ap (λ (b : Bool). cond {A = ℕ} b 1 0) (mark d (omega arith)) in
-        omega arith
+        grind (arith, nat_tests)

@@ -1,18 +1,17 @@
 -- The sweep from the last row to the first: the rows when those from some place on have been looked at, and how many
 -- they are.
-use Rattle.std.proofs.Common.{◌≡◌, ℕ, zero, suc, ◌+◌, ◌<◌, ◌≤◌, Bool, true, false, cond, List, [], ◌∷◌, ◌++◌, length, get_or, take, drop, sym, refl, ap, ◌∙◌, arith}
+use Rattle.std.proofs.Common.{◌≡◌, ℕ, ◌+◌, ◌-◌, ◌<◌, ◌≤◌, Bool, true, false, cond, List, [], ◌∷◌, ◌++◌, length, get_or, take, drop, sym, refl, ap, ◌∙◌, arith}
 use Rattle.std.specs.List.{remove}
 use Rattle.std.proofs.lemmas.List.{append_assoc, append-nil, take_all, drop_all, take_more, drop_more, length-take-le, length-append, length-drop, get_or_at}
+use Rattle.std.proofs.lemmas.List.Edits.{remove-append_right}
+use Rattle.std.proofs.lemmas.Bool.Decides.{nat_tests}
 use Rattle.goals.specs.Goals.{Meaning}
 use Rattle.sheets.specs.declared.row.Row.{Row}
 use Rattle.sheets.specs.Sheets.{no_row}
 use Rattle.sheets.specs.Sweeping.{needed, keep, kept}
 
 removed_at : (p : List Row) (r : Row) (q : List Row) (i : ℕ) → length p ≡ i → remove (p ++ (r ∷ q)) i ≡ p ++ q
-removed_at [] r q zero h = refl
-removed_at [] r q (suc i) h = absurd (omega arith)
-removed_at (x ∷ p) r q zero h = absurd (omega arith)
-removed_at (x ∷ p) r q (suc i) h = ap (λ l. x ∷ l) (removed_at p r q i (omega arith))
+removed_at p r q i h = let z : i - i ≡ 0 = omega arith in remove-append_right p (r ∷ q) i i h (omega arith) ∙ ap (λ k. p ++ remove (r ∷ q) k) z
 
 module _ (m : Meaning) where
   -- the rows when those from i on have been looked at
@@ -50,11 +49,7 @@ module _ (m : Meaning) where
   -- a sweep only removes
   length_kept : (before rows : List Row) → length (kept m before rows) ≤ length rows
   length_kept before [] = omega arith
-  length_kept before (r ∷ rs) = step (needed m r (before ++ kept m (before ++ (r ∷ [])) rs)) (length_kept (before ++ (r ∷ [])) rs)
-    where
-      step : (b : Bool) → length (kept m (before ++ (r ∷ [])) rs) ≤ length rs → length (cond b (r ∷ kept m (before ++ (r ∷ [])) rs) (kept m (before ++ (r ∷ [])) rs)) ≤ suc (length rs)
-      step true h = omega arith
-      step false h = omega arith
+  length_kept before (r ∷ rs) = let ih = length_kept (before ++ (r ∷ [])) rs in grind (arith, nat_tests)
 
   -- of n rows at least those not yet looked at are left, and at most n
   pub length_sweeps : (xs ys : List Row) (i : ℕ) → i ≤ length xs → ys ≡ sweeps xs i → (i ≤ length ys) × (length ys ≤ length xs)

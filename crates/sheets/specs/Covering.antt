@@ -6,16 +6,14 @@ use Rattle.cubes.specs.Searching.{least}
 use Rattle.goals.specs.Goals.{Meaning, vectors, covered_at}
 use Rattle.sheets.specs.declared.reply.Reply.{Reply}
 use Rattle.sheets.specs.declared.reply.Reply.TheVariants.{Gave, Already}
-use Rattle.sheets.specs.declared.reply.Covered.{Covered}
-use Rattle.sheets.specs.declared.reply.Covered.TheVariants as covered
 use Rattle.sheets.specs.declared.refusal.Refusal.TheVariants.{NoSuchDuty, NotWanted, NotCoverable}
 use Rattle.sheets.specs.Sheets.{State, Outcome, refused, settled, in_place}
 use Rattle.sheets.specs.Entering.{entry}
 
--- the reply of a call that covers
-abbrev pub covered_reply : Covered → Reply
-covered_reply covered.Already = Already
-covered_reply (covered.Entered n) = Gave n
+-- the reply of a call that covers: the serial of the new row, or that a row in place covers the duty already
+abbrev pub covered_reply : Option ℕ → Reply
+covered_reply None = Already
+covered_reply (Some n) = Gave n
 
 -- the vector with this number as a row, where there is one
 abbrev pub enter_vector : Meaning → State → Option ℕ → Outcome

@@ -1,5 +1,6 @@
 -- What a sheet holds, which duties its rows cover, and the parts of which each call's answer and effect are made.
 use Rattle.std.specs.Prelude.{◌≡◌, ℕ, ◌^◌, ◌<◌, Bool, false, cond, not, ◌&&◌, ◌||◌, List, [], ◌∷◌, length, Some, None, Ok, Err, vec_items, Option, Result, ◌==◌, nat_le, slice_index_or}
+use Rattle.std.specs.List.{find, list_any}
 use Rattle.cubes.specs.declared.cube.Cube.{Cube}
 use Rattle.cubes.specs.Cubes.{of_masks}
 use Rattle.cubes.specs.Searching.{least}
@@ -63,13 +64,11 @@ RowMarked m r marks = (d : ℕ) → d < length marks → slice_index_or marks d 
 
 -- some row, in place or out, covers duty d; a wanted duty of which this is false is bare
 abbrev pub covered : Meaning → List Row → ℕ → Bool
-covered m [] d = false
-covered m (r ∷ rs) d = row_covers m r d || covered m rs d
+covered m rows d = list_any (λ r. row_covers m r d) rows
 
 -- some row in place covers duty d
 abbrev pub in_place : Meaning → List Row → ℕ → Bool
-in_place m [] d = false
-in_place m (r ∷ rs) d = (not r.out && row_covers m r d) || in_place m rs d
+in_place m rows d = list_any (λ r. not r.out && row_covers m r d) rows
 
 -- duty d is wanted, was covered and is no more
 abbrev pub loses : Meaning → (ℕ → Bool) → (ℕ → Bool) → ℕ → Bool
@@ -85,8 +84,7 @@ above m c = nat_le (2 ^ m.inputs) c.zeros || nat_le (2 ^ m.inputs) c.ones
 
 -- the row of a serial; the rows with that row changed; the rows without it
 abbrev pub row_of : List Row → ℕ → Option Row
-row_of [] n = None
-row_of (r ∷ rs) n = cond (r.serial == n) (Some r) (row_of rs n)
+row_of rows n = find (λ r. r.serial == n) rows
 
 abbrev pub replaced : List Row → ℕ → Row → List Row
 replaced [] n x = []

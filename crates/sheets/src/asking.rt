@@ -11,10 +11,7 @@ use goals::goal::Goal;
 pub(crate) fn row_covers<G: Goal>(goal: &G, row: &Row, duty: u32) -> bool
     ensures { result ≡ row_covers (G.means goal.now) row.now duty }
 {
-    match Cube::from_masks(row.zeros, row.ones) {
-        Ok(cube) => goal.covers(cube, duty),
-        Err(_) => false,
-    }
+    Cube::from_masks(row.zeros, row.ones).is_ok_and(|cube| goal.covers(cube, duty))
 }
 
 // All duties that the row covers.
@@ -23,11 +20,7 @@ pub(crate) fn mark_row<G: Goal>(goal: &G, row: &Row, marks: &mut [bool])
 {
     match Cube::from_masks(row.zeros, row.ones) {
         Ok(cube) => goal.mark(cube, marks),
-        Err(_) => {
-            for mark in marks.iter_mut() {
-                *mark = false;
-            }
-        }
+        Err(_) => marks.fill(false),
     }
 }
 
@@ -41,12 +34,7 @@ fn covers_in_place<G: Goal>(goal: &G, row: &Row, duty: u32) -> bool
 pub(crate) fn any_in_place<G: Goal>(goal: &G, rows: &[Row], duty: u32) -> bool
     ensures { result ≡ in_place (G.means goal.now) rows.now duty }
 {
-    for row in rows {
-        if covers_in_place(goal, row, duty) {
-            return true;
-        }
-    }
-    false
+    rows.iter().any(|row| covers_in_place(goal, row, duty))
 }
 
 // Whether an input at or above the goal's is known.

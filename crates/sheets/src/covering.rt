@@ -5,14 +5,26 @@ ghost use Rattle.sheets.specs.Covering.{cover, covered_reply};
 
 use crate::asking::any_in_place;
 use crate::refusal::Refusal;
-use crate::reply::Covered;
+use crate::reply::Reply;
+use crate::row::Serial;
 use crate::sheet::Sheet;
 use cubes::cube::Cube;
 use goals::covering::smallest_covering;
 use goals::goal::Goal;
 
+// The reply of a call that covers.
+impl From<Option<Serial>> for Reply {
+    ghost from_gives = { λ entered reply. reply ≡ covered_reply entered };
+
+    fn from(entered: Option<Serial>) -> Reply {
+        entered.map_or(Reply::Already, Reply::Gave)
+    }
+}
+
 impl<G: Goal> Sheet<G> {
-    pub fn cover(&mut self, duty: u32) -> Result<Covered, Refusal>
+    // The serial of the new row, or none where a row in place covers the duty already.
+    #[tactic(auto, using(cubes::proofs::Searches::first_least))]
+    pub fn cover(&mut self, duty: u32) -> Result<Option<Serial>, Refusal>
         ensures answer { told covered_reply result ≡ (cover (G.means self.old.goal) (state self.old) duty).answer }
         ensures after { state self.new ≡ (cover (G.means self.old.goal) (state self.old) duty).after }
         ensures same { self.new.goal ≡ self.old.goal }
@@ -24,14 +36,10 @@ impl<G: Goal> Sheet<G> {
             return Err(Refusal::NotWanted);
         }
         if any_in_place(&self.goal, self.rows.as_slice(), duty) {
-            return Ok(Covered::Already);
+            return Ok(None);
         }
-        let Some(number) = smallest_covering(&self.goal, duty) else {
-            return Err(Refusal::NotCoverable);
-        };
-        match Cube::vector(self.goal.inputs(), number) {
-            Some(cube) => Ok(Covered::Entered(self.add(cube)?)),
-            None => Err(Refusal::NotCoverable),
-        }
+        let number = smallest_covering(&self.goal, duty).ok_or(Refusal::NotCoverable)?;
+        let cube = Cube::vector(self.goal.inputs(), number).ok_or(Refusal::NotCoverable)?;
+        self.add(cube).map(Some)
     }
 }

@@ -21,16 +21,8 @@ impl<G: Goal> Sheet<G> {
         if self.rows.len() >= 256 {
             return Err(Refusal::SheetFull);
         }
-        if self.given == 65535 {
-            return Err(Refusal::SerialsSpent);
-        }
-        let serial = self.given + 1;
-        self.rows.push_reserved(Row {
-            serial,
-            zeros: cube.zeros(),
-            ones: cube.ones(),
-            out: false,
-        });
+        let serial = self.given.checked_add(1).ok_or(Refusal::SerialsSpent)?;
+        self.rows.push_reserved(Row::of(serial, cube));
         self.given = serial;
         Ok(serial)
     }

@@ -5,8 +5,6 @@ ghost use Rattle.sheets.specs.Exchanging.{exchange};
 ghost use Rattle.sheets.specs.declared.reply.Reply.TheVariants.{Done};
 
 use crate::asking::is_above;
-use crate::finding::find;
-use crate::losing::first_lost;
 use crate::refusal::Refusal;
 use crate::row::Row;
 use crate::sheet::Sheet;
@@ -23,36 +21,18 @@ impl<G: Goal> Sheet<G> {
         ensures same { self.new.goal ≡ self.old.goal }
     {
         let Slip { serial } = slip;
-        let Some(i) = find(self.rows.as_slice(), serial) else {
-            return Err(Refusal::NotOut);
-        };
-        let row = self.rows[i];
-        if !row.out {
-            return Err(Refusal::NotOut);
-        }
+        let i = self.place_out(serial)?;
         if is_above(&self.goal, cube) {
             self.rows[i].out = false;
             return Err(Refusal::InputAbove);
         }
-        match first_lost(
-            &self.goal,
-            &row,
-            Some(cube),
-            self.rows.as_slice(),
-            self.left.as_mut_slice(),
-            self.marks.as_mut_slice(),
-        ) {
+        match self.memory.first_lost(&self.goal, &self.rows[i], Some(cube), self.rows.as_slice()) {
             Some(duty) => {
                 self.rows[i].out = false;
                 Err(Refusal::DutyLeftBare(duty))
             }
             None => {
-                self.rows[i] = Row {
-                    serial,
-                    zeros: cube.zeros(),
-                    ones: cube.ones(),
-                    out: false,
-                };
+                self.rows[i] = Row::of(serial, cube);
                 Ok(())
             }
         }

@@ -4,7 +4,6 @@ ghost use Rattle.sheets.specs.Sheets.{state, told};
 ghost use Rattle.sheets.specs.Joining.{join};
 ghost use Rattle.sheets.specs.declared.reply.Reply.TheVariants.{Done};
 
-use crate::finding::find;
 use crate::refusal::Refusal;
 use crate::row::{Row, Serial};
 use crate::sheet::Sheet;
@@ -18,12 +17,8 @@ impl<G: Goal> Sheet<G> {
         ensures after { state self.new ≡ (join (state self.old) first second).after }
         ensures same { self.new.goal ≡ self.old.goal }
     {
-        let Some(i) = find(self.rows.as_slice(), first) else {
-            return Err(Refusal::NoSuchRow);
-        };
-        let Some(j) = find(self.rows.as_slice(), second) else {
-            return Err(Refusal::NoSuchRow);
-        };
+        let i = self.place_of(first).ok_or(Refusal::NoSuchRow)?;
+        let j = self.place_of(second).ok_or(Refusal::NoSuchRow)?;
         let x = self.rows[i];
         let y = self.rows[j];
         if x.out || y.out {
@@ -32,15 +27,10 @@ impl<G: Goal> Sheet<G> {
         if first == second {
             return Err(Refusal::NotJoinable);
         }
-        let Ok(cube) = Cube::from_masks(x.zeros | y.zeros, x.ones | y.ones) else {
-            return Err(Refusal::NotJoinable);
-        };
-        self.rows[i] = Row {
-            serial: first,
-            zeros: cube.zeros(),
-            ones: cube.ones(),
-            out: false,
-        };
+        let cube = Cube::from_masks(x.zeros | y.zeros, x.ones | y.ones).map_err(
+            |_| Refusal::NotJoinable,
+        )?;
+        self.rows[i] = Row::of(first, cube);
         let _ = self.rows.remove(j);
         Ok(())
     }

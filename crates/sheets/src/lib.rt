@@ -12,6 +12,7 @@ pub mod joining;
 pub mod listing;
 pub mod losing;
 pub mod making;
+pub mod memory;
 pub mod numbers;
 pub mod pulling;
 pub mod refusal;

@@ -3,6 +3,7 @@ ghost use Rattle.std.specs.Prelude.{◌≡◌, List, IfOk};
 ghost use Rattle.sheets.specs.Sheets.{state, new};
 ghost use Rattle.sheets.specs.Running.{Kept};
 
+use crate::memory::Memory;
 use crate::sheet::Sheet;
 use goals::goal::Goal;
 use std::alloc::{AllocError, Global};
@@ -17,16 +18,12 @@ impl<G: Goal> Sheet<G> {
         ensures kept { Kept (G.means goal) }
     {
         let rows = Vec::with_capacity(heap, 256)?;
-        let marks = vec![in heap; false; 65535]?;
-        let left = vec![in heap; false; 65535]?;
-        let counts = vec![in heap; 0u16; 65535]?;
+        let memory = Memory::new(heap)?;
         Ok(Sheet {
             goal,
             rows,
             given: 0,
-            marks,
-            left,
-            counts,
+            memory,
         })
     }
 

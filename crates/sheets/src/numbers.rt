@@ -1,4 +1,5 @@
-// The numbers by which the shop knows refusals and answers.
+// The numbers by which the shop knows refusals and answers. They are given by the shop and have gaps, so each is written out
+// here and no conversion makes it.
 ghost use Rattle.std.specs.Prelude.{◌≡◌};
 ghost use Rattle.sheets.specs.Sheets.{number, answer_number};
 

@@ -4,7 +4,6 @@ ghost use Rattle.sheets.specs.Sheets.{state, told};
 ghost use Rattle.sheets.specs.Pulling.{pull, put_back};
 ghost use Rattle.sheets.specs.declared.reply.Reply.TheVariants.{Gave, Done};
 
-use crate::finding::find;
 use crate::refusal::Refusal;
 use crate::row::Serial;
 use crate::sheet::Sheet;
@@ -18,9 +17,7 @@ impl<G: Goal> Sheet<G> {
         ensures after { state self.new ≡ (pull (state self.old) serial).after }
         ensures same { self.new.goal ≡ self.old.goal }
     {
-        let Some(i) = find(self.rows.as_slice(), serial) else {
-            return Err(Refusal::NoSuchRow);
-        };
+        let i = self.place_of(serial).ok_or(Refusal::NoSuchRow)?;
         if self.rows[i].out {
             return Err(Refusal::RowOut);
         }
@@ -35,12 +32,7 @@ impl<G: Goal> Sheet<G> {
         ensures same { self.new.goal ≡ self.old.goal }
     {
         let Slip { serial } = slip;
-        let Some(i) = find(self.rows.as_slice(), serial) else {
-            return Err(Refusal::NotOut);
-        };
-        if !self.rows[i].out {
-            return Err(Refusal::NotOut);
-        }
+        let i = self.place_out(serial)?;
         self.rows[i].out = false;
         Ok(())
     }

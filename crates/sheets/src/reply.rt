@@ -1,13 +1,6 @@
 // What an accepted call answers.
 use crate::row::Serial;
 
-// What covering a duty answers: a row in place covers it already, or a new row does.
-#[derive(Clone, Copy, Debug, PartialEq, Eq)]
-pub enum Covered {
-    Already,
-    Entered(Serial),
-}
-
 // The answer of any call.
 #[derive(Clone, Copy, Debug, PartialEq, Eq)]
 pub enum Reply {

@@ -4,8 +4,6 @@ ghost use Rattle.sheets.specs.Sheets.{state, told};
 ghost use Rattle.sheets.specs.Striking.{strike};
 ghost use Rattle.sheets.specs.declared.reply.Reply.TheVariants.{Done};
 
-use crate::finding::find;
-use crate::losing::first_lost;
 use crate::refusal::Refusal;
 use crate::sheet::Sheet;
 use crate::slip::Slip;
@@ -19,21 +17,11 @@ impl<G: Goal> Sheet<G> {
         ensures same { self.new.goal ≡ self.old.goal }
     {
         let Slip { serial } = slip;
-        let Some(i) = find(self.rows.as_slice(), serial) else {
-            return Err(Refusal::NotOut);
-        };
-        let row = self.rows[i];
-        if !row.out {
-            return Err(Refusal::NotOut);
-        }
-        match first_lost(
-            &self.goal,
-            &row,
-            None,
-            self.rows.as_slice(),
-            self.left.as_mut_slice(),
-            self.marks.as_mut_slice(),
-        ) {
+        let i = self.place_out(serial)?;
+        match self
+            .memory
+            .first_lost(&self.goal, &self.rows[i], None, self.rows.as_slice())
+        {
             Some(duty) => {
                 self.rows[i].out = false;
                 Err(Refusal::DutyLeftBare(duty))

@@ -7,6 +7,7 @@ ghost use Rattle.sheets.specs.Sheets.{state, row_covers, RowMarked, no_row};
 ghost use Rattle.sheets.specs.Sweeping.{needed, sweep, Tallied, has_sole};
 
 use crate::asking::mark_row;
+use crate::memory::Memory;
 use crate::row::Row;
 use crate::sheet::Sheet;
 use goals::goal::Goal;
@@ -17,9 +18,9 @@ fn add_marks(counts: &mut [u16], marks: &[bool])
     requires small { (d : ℕ) → d < length counts.old → slice_index counts.old d < 256 }
     ensures { (d : ℕ) → d < length counts.new → slice_index counts.new d ≡ slice_index counts.old d + (if get_or marks.now d false then 1 else 0) }
 {
-    for duty in 0..counts.len() {
+    for (duty, count) in counts.iter_mut().enumerate() {
         if marks[duty] {
-            counts[duty] += 1;
+            *count += 1;
         }
     }
 }
@@ -30,64 +31,80 @@ fn take_marks(counts: &mut [u16], marks: &[bool])
     requires some { (d : ℕ) → d < length counts.old → slice_index_or marks.now d false ≡ true → 0 < slice_index counts.old d }
     ensures { (d : ℕ) → d < length counts.new → slice_index counts.new d + (if get_or marks.now d false then 1 else 0) ≡ slice_index counts.old d }
 {
-    for duty in 0..counts.len() {
+    for (duty, count) in counts.iter_mut().enumerate() {
         if marks[duty] {
-            counts[duty] -= 1;
+            *count -= 1;
         }
     }
 }
 
-// How many rows in place cover each duty.
-fn tally<G: Goal>(goal: &G, rows: &[Row], counts: &mut [u16], marks: &mut [bool])
-    requires few { length rows.now ≤ 256 }
-    requires counts { length counts.old ≡ 65535 }
-    requires marks { length marks.old ≡ 65535 }
-    ensures { Tallied (G.means goal.now) rows.now counts.new }
-{
-    for count in counts.iter_mut() {
-        *count = 0;
-    }
-    for row in rows {
-        if !row.out {
-            mark_row(goal, row, marks);
-            add_marks(counts, marks);
+impl Memory {
+    // Counts how many rows in place cover each duty.
+    fn tally<G: Goal>(&mut self, goal: &G, rows: &[Row])
+        requires { length rows.now ≤ 256 }
+        ensures { Tallied (G.means goal.now) rows.now self.new.counts.items }
+    {
+        let counts = self.counts.as_mut_slice();
+        let marks = self.marks.as_mut_slice();
+        counts.fill(0);
+        for row in rows {
+            if !row.out {
+                mark_row(goal, row, marks);
+                add_marks(counts, marks);
+            }
         }
     }
-}
 
-// Whether some wanted duty that is marked has the count 1: the row that is marked alone covers it.
-fn is_sole<G: Goal>(goal: &G, counts: &[u16], marks: &[bool]) -> bool
-    requires counts { length counts.now ≡ 65535 }
-    requires marks { length marks.now ≡ 65535 }
-    ensures { result ≡ has_sole (G.means goal.now) counts.now marks.now }
-{
-    for duty in 0..counts.len() {
-        if marks[duty] && counts[duty] == 1 && goal.wanted(duty as u32) {
-            return true;
-        }
+    // Marks all duties that the row covers.
+    fn mark<G: Goal>(&mut self, goal: &G, row: &Row)
+        ensures marked { RowMarked (G.means goal.now) row.now self.new.marks.items }
+        ensures same { self.new.counts ≡ self.old.counts }
+    {
+        mark_row(goal, row, self.marks.as_mut_slice());
     }
-    false
+
+    // Whether some wanted duty that is marked has the count 1: the row that is marked alone covers it.
+    #[tactic(auto, using(crate::proofs::Tallies::sole_here, crate::proofs::Tallies::none_sole))]
+    fn is_sole<G: Goal>(&self, goal: &G) -> bool
+        ensures { result ≡ has_sole (G.means goal.now) self.now.counts.items self.now.marks.items }
+    {
+        let marks = self.marks.as_slice();
+        for (duty, count) in self.counts.iter().enumerate() {
+            if marks[duty] && *count == 1 && goal.wanted(duty as u32) {
+                return true;
+            }
+        }
+        false
+    }
+
+    // Takes the row that is marked off the counts.
+    fn untally(&mut self)
+        requires { (d : ℕ) → d < 65535 → slice_index_or self.old.marks.items d false ≡ true → 0 < slice_index self.old.counts.items d }
+        ensures { (d : ℕ) → d < 65535 → slice_index self.new.counts.items d + (if get_or self.old.marks.items d false then 1 else 0) ≡ slice_index self.old.counts.items d }
+    {
+        take_marks(self.counts.as_mut_slice(), self.marks.as_slice());
+    }
 }
 
 impl<G: Goal> Sheet<G> {
     // Removes row i unless it is needed, and keeps the tally true.
     fn sweep_row(&mut self, i: usize)
         requires within { i < vec_len self.old.rows }
-        requires tallied { Tallied (G.means self.old.goal) self.old.rows.items self.old.counts.items }
+        requires tallied { Tallied (G.means self.old.goal) self.old.rows.items self.old.memory.counts.items }
         ensures rows { self.new.rows.items ≡ (if needed (G.means self.old.goal) (slice_index_or self.old.rows.items i no_row) (remove self.old.rows.items i) then self.old.rows.items else remove self.old.rows.items i) }
         ensures given { self.new.given ≡ self.old.given }
         ensures same { self.new.goal ≡ self.old.goal }
-        ensures tallied { Tallied (G.means self.new.goal) self.new.rows.items self.new.counts.items }
+        ensures tallied { Tallied (G.means self.new.goal) self.new.rows.items self.new.memory.counts.items }
     {
         let row = self.rows[i];
         if row.out {
             return;
         }
-        mark_row(&self.goal, &row, self.marks.as_mut_slice());
-        if is_sole(&self.goal, self.counts.as_slice(), self.marks.as_slice()) {
+        self.memory.mark(&self.goal, &row);
+        if self.memory.is_sole(&self.goal) {
             return;
         }
-        take_marks(self.counts.as_mut_slice(), self.marks.as_slice());
+        self.memory.untally();
         let _ = self.rows.remove(i);
     }
 
@@ -98,12 +115,8 @@ impl<G: Goal> Sheet<G> {
         ensures same { self.new.goal ≡ self.old.goal }
     {
         let before = self.rows.len();
-        tally(
-            &self.goal,
-            self.rows.as_slice(),
-            self.counts.as_mut_slice(),
-            self.marks.as_mut_slice(),
-        );
+        self.memory.tally(&self.goal, self.rows.as_slice());
+        // Rows go while it runs, so it counts their places.
         for i in (0..before).rev() {
             self.sweep_row(i);
         }

@@ -1,13 +1,11 @@
-use Rattle.std.proofs.Common.{false, length, get_or, Some, None, arith}
-use Rattle.cubes.proofs.Searches.{first_least}
+use Rattle.std.proofs.Common.{◌≡◌, rules, true, false, ◌∙◌}
+use Rattle.std.proofs.lemmas.Iterator.{YieldsList-from_slice, IsFirst-from_position}
+use borrow.Author.Tests.{tests}
+use Rattle.sheets.proofs.Losses.{first_true}
 use Rattle.sheets.proofs.losing.first_left.Goals as goal
-
-pub returns-then-left-duty : goal.returns-then-left-duty
-returns-then-left-duty c =
-    let left = c.args.left.now in
-    first_least (length left) (λ d. get_or left d false) (Some c.loop-duty.duty) (c.loop-duty-test.true, c.if-left-duty.true, c.loop-duty.invariant)
 
 pub returns : goal.returns
 returns c =
-    let left = c.args.left.now in
-    first_least (length left) (λ d. get_or left d false) None (λ k h. c.loop-duty.invariant k (omega arith))
+    let e : c.map.result ≡ c.position.result = search rules in
+    e ∙ first_true c.args.left.now c.position.result
+    (IsFirst-from_position _ _ _ (λ b. b ≡ true) (λ b. b ≡ false) c.position.ensures.ran (YieldsList-from_slice c.args.left.now cc) (λ x q k. search (rules, tests)) (λ x q k. search (rules, tests)))

@@ -1,24 +1,24 @@
-use Rattle.std.proofs.Common.{◌≡◌, false, refl, subst}
-use Rattle.sheets.specs.Sheets.{state, row_in}
-use Rattle.sheets.specs.Places.{Stands}
-use Rattle.sheets.proofs.Handing.{exchange_bare, exchange_done}
+use Rattle.std.proofs.Common.{Some, None, false, set, sym, refl, ap, ◌∙◌}
+use Rattle.sheets.specs.Sheets.{Outcome, state, row_in}
+use Rattle.sheets.proofs.Handing.{in_its_place, exchanged}
 use Rattle.sheets.proofs.sheet.Sheet.exchange.Goals as goal
 
-pub returns-in-Some-first_lost : goal.returns-in-Some-first_lost
-returns-in-Some-first_lost g c =
+pub returns-in-Some : goal.returns-in-Some
+returns-in-Some g c =
     let m = g.G.Goal.means c.args.self.now.goal in
     let s = state c.args.self.now in
-    let st : Stands s.rows c.args.slip.serial c.in-Some.i = subst (λ xs. Stands xs c.args.slip.serial c.in-Some.i) c.as_slice.ensures.value c.in-Some.ensures in
-    let e = exchange_bare m s c.args.slip.serial c.in-Some.i st c.index.result.now c.index.ensures c.if-not-row.false c.as_slice-2.result.now c.as_slice-2.ensures.value
-    c.args.cube c.if-is_above.ensures c.in-Some-first_lost.duty c.in-Some-first_lost.ensures c.index_mut-in-Some-first_lost.result.now c.index_mut-in-Some-first_lost.ensures.value in
-    record { answer = e.answer; after = e.after; same = refl }
+    let n = c.args.slip.serial in
+    let st = c.in_ok-i.ensures.0 in
+    let e = exchanged m s n c.in_ok-i.i st c.in_ok-i.ensures.1 c.index.result.now c.index.ensures c.as_slice.result.now c.as_slice.ensures.value c.args.cube c.if-is_above.ensures (Some c.in-Some.duty) c.in-Some.ensures in
+    let back = in_its_place m s n c.in_ok-i.i st c.in_ok-i.ensures.1 c.index.result.now c.index.ensures c.as_slice.result.now c.as_slice.ensures.value c.index_mut-in-Some.result.now c.index_mut-in-Some.ensures.value false in
+    record { answer = ap (λ (o : Outcome). o.answer) e; after = ap (λ xs. record { rows = xs; given = s.given }) back ∙ ap (λ (o : Outcome). o.after) e; same = refl }
 
 pub returns-in-None : goal.returns-in-None
 returns-in-None g c =
     let m = g.G.Goal.means c.args.self.now.goal in
     let s = state c.args.self.now in
-    let st : Stands s.rows c.args.slip.serial c.in-Some.i = subst (λ xs. Stands xs c.args.slip.serial c.in-Some.i) c.as_slice.ensures.value c.in-Some.ensures in
-    let x : record { serial = c.args.slip.serial; zeros = c.zeros.result; ones = c.ones.result; out = false } ≡ row_in c.args.slip.serial c.args.cube = rw (c.zeros.ensures, c.ones.ensures) refl in
-    let e = exchange_done m s c.args.slip.serial c.in-Some.i st c.index.result.now c.index.ensures c.if-not-row.false c.as_slice-2.result.now c.as_slice-2.ensures.value
-    c.args.cube c.if-is_above.ensures c.in-None.ensures _ x in
-    record { answer = e.answer; after = e.after; same = refl }
+    let n = c.args.slip.serial in
+    let i = c.in_ok-i.i in
+    let st = c.in_ok-i.ensures.0 in
+    let e = exchanged m s n i st c.in_ok-i.ensures.1 c.index.result.now c.index.ensures c.as_slice.result.now c.as_slice.ensures.value c.args.cube c.if-is_above.ensures None c.in-None.ensures in
+    record { answer = ap (λ (o : Outcome). o.answer) e; after = ap (λ xs. record { rows = xs; given = s.given }) (ap (set s.rows i) c.of.ensures ∙ sym (st.change (row_in n c.args.cube))) ∙ ap (λ (o : Outcome). o.after) e; same = refl }

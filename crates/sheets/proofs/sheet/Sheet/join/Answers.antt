@@ -1,24 +1,23 @@
-use Rattle.std.proofs.Common.{◌≡◌, false, refl, subst}
-use Rattle.sheets.specs.Sheets.{state, row_in}
-use Rattle.sheets.specs.Places.{Stands}
-use Rattle.sheets.proofs.Joins.{join_same, join_done}
+use Rattle.std.proofs.Common.{◌≡◌, Some, Ok, set, refl, ap, ◌∙◌, subst, arith}
+use lib.Bits.{bit_or}
+use Rattle.std.specs.List.{remove}
+use Rattle.cubes.specs.Cubes.{Made}
+use Rattle.sheets.specs.Sheets.{Outcome, state}
+use Rattle.sheets.specs.Places.{Stands, Found}
+use Rattle.sheets.proofs.Joins.{joined}
 use Rattle.sheets.proofs.sheet.Sheet.join.Goals as goal
-
-pub returns-then-first-second : goal.returns-then-first-second
-returns-then-first-second g c =
-    let s = state c.args.self.now in
-    let sa : Stands s.rows c.args.first c.in-Some.i = subst (λ xs. Stands xs c.args.first c.in-Some.i) c.as_slice.ensures.value c.in-Some.ensures in
-    let sb : Stands s.rows c.args.second c.in-Some-find.j = subst (λ xs. Stands xs c.args.second c.in-Some-find.j) c.as_slice-2.ensures.value c.in-Some-find.ensures in
-    let e = join_same s c.args.first c.args.second c.in-Some.i c.in-Some-find.j sa sb c.index-x.result.now c.index-y.result.now c.index-x.ensures c.index-y.ensures c.if-x.false c.if-y.false c.if-first-second.true in
-    record { answer = e.answer; after = e.after; same = refl }
 
 pub returns : goal.returns
 returns g c =
     let s = state c.args.self.now in
-    let sa : Stands s.rows c.args.first c.in-Some.i = subst (λ xs. Stands xs c.args.first c.in-Some.i) c.as_slice.ensures.value c.in-Some.ensures in
-    let sb : Stands s.rows c.args.second c.in-Some-find.j = subst (λ xs. Stands xs c.args.second c.in-Some-find.j) c.as_slice-2.ensures.value c.in-Some-find.ensures in
-    let k = c.in-Ok.cube in
-    let z : record { serial = c.args.first; zeros = c.zeros.result; ones = c.ones.result; out = false } ≡ row_in c.args.first k = rw (c.zeros.ensures, c.ones.ensures) refl in
-    let e = join_done s c.args.first c.args.second c.in-Some.i c.in-Some-find.j sa sb c.index-x.result.now c.index-y.result.now c.index-x.ensures c.index-y.ensures c.if-x.false c.if-y.false c.if-first-second.false
-    k c.in-Ok.ensures _ z _ c.remove.ensures.items in
-    record { answer = e.answer; after = e.after; same = refl }
+    let p : c.place_of.result ≡ Some c.in_ok-i.i = grind arith in
+    let q : c.place_of-2.result ≡ Some c.in_ok-j.j = grind arith in
+    let sa : Stands s.rows c.args.first c.in_ok-i.i = subst (Found s.rows c.args.first) p c.place_of.ensures in
+    let sb : Stands s.rows c.args.second c.in_ok-j.j = subst (Found s.rows c.args.second) q c.place_of-2.ensures in
+    let x = c.index-x.result.now in
+    let y = c.index-y.result.now in
+    let made : c.from_masks.result ≡ Ok c.in_ok-cube.cube = grind arith in
+    let h = subst (Made (bit_or x.zeros y.zeros) (bit_or x.ones y.ones)) made c.from_masks.ensures in
+    let e = joined s c.args.first c.args.second c.in_ok-i.i c.in_ok-j.j sa sb x y c.index-x.ensures c.index-y.ensures c.if-x.false c.if-y.false c.if-first-second.false
+    c.in_ok-cube.cube h _ (c.remove.ensures.items ∙ ap (λ r. remove (set s.rows c.in_ok-i.i r) c.in_ok-j.j) c.of.ensures) in
+    record { answer = ap (λ (o : Outcome). o.answer) e; after = ap (λ (o : Outcome). o.after) e; same = refl }

@@ -1,23 +1,22 @@
-use Rattle.std.proofs.Common.{refl, subst}
-use Rattle.sheets.specs.Sheets.{state}
-use Rattle.sheets.specs.Places.{Stands}
-use Rattle.sheets.proofs.Handing.{strike_bare, strike_done}
+use Rattle.std.proofs.Common.{Some, None, false, sym, refl, ap, ◌∙◌}
+use Rattle.sheets.specs.Sheets.{Outcome, state}
+use Rattle.sheets.proofs.Handing.{in_its_place, struck}
 use Rattle.sheets.proofs.sheet.Sheet.strike.Goals as goal
 
-pub returns-in-Some-first_lost : goal.returns-in-Some-first_lost
-returns-in-Some-first_lost g c =
+pub returns-in-Some : goal.returns-in-Some
+returns-in-Some g c =
     let m = g.G.Goal.means c.args.self.now.goal in
     let s = state c.args.self.now in
-    let st : Stands s.rows c.args.slip.serial c.in-Some.i = subst (λ xs. Stands xs c.args.slip.serial c.in-Some.i) c.as_slice.ensures.value c.in-Some.ensures in
-    let e = strike_bare m s c.args.slip.serial c.in-Some.i st c.index.result.now c.index.ensures c.if-not-row.false c.as_slice-2.result.now c.as_slice-2.ensures.value
-    c.in-Some-first_lost.duty c.in-Some-first_lost.ensures c.index_mut.result.now c.index_mut.ensures.value in
-    record { answer = e.answer; after = e.after; same = refl }
+    let n = c.args.slip.serial in
+    let st = c.in_ok-i.ensures.0 in
+    let e = struck m s n c.in_ok-i.i st c.in_ok-i.ensures.1 c.index.result.now c.index.ensures c.as_slice.result.now c.as_slice.ensures.value (Some c.in-Some.duty) c.in-Some.ensures in
+    let back = in_its_place m s n c.in_ok-i.i st c.in_ok-i.ensures.1 c.index.result.now c.index.ensures c.as_slice.result.now c.as_slice.ensures.value c.index_mut.result.now c.index_mut.ensures.value false in
+    record { answer = ap (λ (o : Outcome). o.answer) e; after = ap (λ xs. record { rows = xs; given = s.given }) back ∙ ap (λ (o : Outcome). o.after) e; same = refl }
 
 pub returns-in-None : goal.returns-in-None
 returns-in-None g c =
     let m = g.G.Goal.means c.args.self.now.goal in
     let s = state c.args.self.now in
-    let st : Stands s.rows c.args.slip.serial c.in-Some.i = subst (λ xs. Stands xs c.args.slip.serial c.in-Some.i) c.as_slice.ensures.value c.in-Some.ensures in
-    let e = strike_done m s c.args.slip.serial c.in-Some.i st c.index.result.now c.index.ensures c.if-not-row.false c.as_slice-2.result.now c.as_slice-2.ensures.value
-    c.in-None.ensures _ c.remove.ensures.items in
-    record { answer = e.answer; after = e.after; same = refl }
+    let st = c.in_ok-i.ensures.0 in
+    let e = struck m s c.args.slip.serial c.in_ok-i.i st c.in_ok-i.ensures.1 c.index.result.now c.index.ensures c.as_slice.result.now c.as_slice.ensures.value None c.in-None.ensures in
+    record { answer = ap (λ (o : Outcome). o.answer) e; after = ap (λ xs. record { rows = xs; given = s.given }) (c.remove.ensures.items ∙ sym st.remove) ∙ ap (λ (o : Outcome). o.after) e; same = refl }

@@ -1,8 +1,8 @@
 use Rattle.std.proofs.Common.{◌≡◌, ℕ, ◌<◌, Bool, false, not, ◌&&◌, ◌||◌, length, get_or, sym, ap, ◌∙◌, arith}
 use Rattle.sheets.specs.Sheets.{row_covers, some_covers, in_place, loses}
 use Rattle.sheets.proofs.Losses.{apart_all, lost_further}
-use Rattle.sheets.proofs.losing.first_lost.Goals as goal
-use Rattle.sheets.proofs.losing.first_lost.Goals.{in-Some, in_default}
+use Rattle.sheets.proofs.memory.Memory.first_lost.Goals as goal
+use Rattle.sheets.proofs.memory.Memory.first_lost.Goals.{in-Some, in_default}
 
 -- what is left of what the row covers and is wanted, without what the cube and the rows cover
 parts : (v k w r s p : Bool) → v ≡ (k && not s) → k ≡ (w && r) → (v && not p) ≡ (w && (r && not (s || p)))
