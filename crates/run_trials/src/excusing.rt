@@ -5,7 +5,6 @@ use goals::excused::Excused;
 use goals::goal::Goal;
 use goals::refusal::NotExcused;
 use sheets::refusal::Refusal;
-use sheets::reply::Covered;
 use sheets::sheet::Sheet;
 use std::alloc::Global;
 use std::test::Fail;
@@ -47,9 +46,9 @@ fn is_seen_by_a_sheet(rt: HostRuntime) -> Result<(), Fail> {
     let mut sheet = Sheet::new(rt.alloc(), excused(rt.alloc())?)?;
     assert_eq!(rt; sheet.cover(63), Err(Refusal::NotWanted));
     assert_eq!(rt; sheet.cover(100), Err(Refusal::NoSuchDuty));
-    assert_eq!(rt; sheet.cover(64), Ok(Covered::Entered(1)));
+    assert_eq!(rt; sheet.cover(64), Ok(Some(1)));
     assert_eq!(rt; sheet.cover(63), Err(Refusal::NotWanted));
-    assert_eq!(rt; sheet.cover(99), Ok(Covered::Already));
+    assert_eq!(rt; sheet.cover(99), Ok(None));
     assert_eq!(rt; Refusal::NotWanted.number(), 31);
     listed(&rt, &sheet, b"1 0\n")
 }

@@ -5,7 +5,6 @@ use boards::board::Board;
 use cubes::cube::Cube;
 use goals::detection::Detection;
 use sheets::refusal::Refusal;
-use sheets::reply::Covered;
 use sheets::sheet::Sheet;
 use std::alloc::Global;
 use std::test::Fail;
@@ -31,7 +30,7 @@ fn takes_no_row_more(rt: HostRuntime) -> Result<(), Fail> {
         sheet.enter(Cube::from_masks(4, 0)?),
         Err(Refusal::InputAbove)
     );
-    assert_eq!(rt; sheet.cover(3), Ok(Covered::Already));
+    assert_eq!(rt; sheet.cover(3), Ok(None));
     assert_eq!(rt; sheet.cover(0), Err(Refusal::SheetFull));
     assert_eq!(rt; sheet.cover(6), Err(Refusal::NoSuchDuty));
     assert_eq!(rt; Refusal::SheetFull.number(), 22);
@@ -47,7 +46,7 @@ fn uses_a_place_again(rt: HostRuntime) -> Result<(), Fail> {
     let struck = sheet.strike(slip);
     assert_eq!(rt; entered, Err(Refusal::SheetFull));
     assert_eq!(rt; struck, Ok(()));
-    assert_eq!(rt; sheet.cover(0), Ok(Covered::Entered(257)));
+    assert_eq!(rt; sheet.cover(0), Ok(Some(257)));
     assert_eq!(rt; sheet.cover(4), Err(Refusal::SheetFull));
     assert_eq!(rt; sheet.sweep(), 254);
     listed(&rt, &sheet, b"1 0X\n257 11\n")

@@ -5,7 +5,6 @@ use boards::board::Board;
 use cubes::cube::Cube;
 use goals::detection::Detection;
 use sheets::refusal::Refusal;
-use sheets::reply::Covered;
 use sheets::sheet::Sheet;
 use std::alloc::Global;
 use std::test::Fail;
@@ -25,13 +24,13 @@ fn spent(heap: Global, given: u16) -> Result<Sheet<Detection<Board>>, Fail> {
 #[test]
 fn is_the_last(rt: HostRuntime) -> Result<(), Fail> {
     let mut sheet = spent(rt.alloc(), 65534)?;
-    assert_eq!(rt; sheet.cover(0), Ok(Covered::Entered(65535)));
+    assert_eq!(rt; sheet.cover(0), Ok(Some(65535)));
     assert_eq!(rt; sheet.cover(4), Err(Refusal::SerialsSpent));
     assert_eq!(rt;
         sheet.enter(Cube::from_masks(1, 0)?),
         Err(Refusal::SerialsSpent)
     );
-    assert_eq!(rt; sheet.cover(3), Ok(Covered::Already));
+    assert_eq!(rt; sheet.cover(3), Ok(None));
     assert_eq!(rt;
         sheet.enter(Cube::from_masks(4, 0)?),
         Err(Refusal::InputAbove)

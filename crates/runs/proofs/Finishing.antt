@@ -1,7 +1,8 @@
 -- The end of a run: one call more of its answers, the rows when no slip is in hand, and the whole promise put together.
-use Rattle.std.proofs.Common.{◌≡◌, ℕ, ◌+◌, ◌<◌, Bool, true, false, ◌&&◌, eqb, List, [], ◌∷◌, ◌++◌, map, length, get_or, take, Result, sym, refl, ap, ◌∙◌}
+use Rattle.std.proofs.Common.{◌≡◌, ℕ, ◌+◌, ◌<◌, false, ◌&&◌, eqb, List, [], ◌∷◌, ◌++◌, map, length, get_or, take, Result, sym, refl, ap, ◌∙◌, arith}
 use Rattle.std.proofs.lemmas.List.{take_more}
-use Rattle.std.proofs.lemmas.Bool.{or_parts, eq-eqb, cond-false}
+use Rattle.std.proofs.lemmas.Bool.{or_parts}
+use Rattle.std.proofs.lemmas.Bool.Decides.{nat_tests}
 use Rattle.claims.specs.declared.refusal.ClaimRefusal.{ClaimRefusal}
 use Rattle.claims.specs.Claims as claims
 use Rattle.claims.specs.Bounds.{Bound}
@@ -26,15 +27,12 @@ answers_append m s (c ∷ xs) ys = ap (λ rest. (does m s c).answer ∷ rest) (a
 pub answers_more : (m : Meaning) (s : State) (calls : List Call) (i : ℕ) (d : Call) → i < length calls → answers m s (take (i + 1) calls) ≡ answers m s (take i calls) ++ ((does m (after m s (take i calls)) (get_or calls i d)).answer ∷ [])
 answers_more m s calls i d h = ap (answers m s) (take_more calls i d h) ∙ answers_append m s (take i calls) (get_or calls i d ∷ [])
 
-in_place_here : (b t : Bool) → (b && t) ≡ false → t ≡ true → b ≡ false
-in_place_here true t h e = sym e ∙ h ∙ refl
-in_place_here false t h e = refl
-
 pub none_out : (rows : List Row) → ((n : ℕ) → out_at rows n ≡ false) → placed_rows rows ≡ rows
 none_out [] h = refl
 none_out (r ∷ rs) h =
-    let here : r.out ≡ false = in_place_here r.out (eqb r.serial r.serial) (or_parts _ _ (h r.serial)).0 (eq-eqb r.serial r.serial refl) in
-    cond-false r.out (placed_rows rs) (r ∷ placed_rows rs) here ∙ ap (λ xs. r ∷ xs) (none_out rs (λ n. (or_parts _ _ (h n)).1))
+    let here = h r.serial in
+    let ih = none_out rs (λ n. (or_parts (r.out && eqb r.serial n) (out_at rs n) (h n)).1) in
+    grind (arith, nat_tests)
 
 pub promised : (m : Meaning) → Lawful m → (calls : List Call) (claimed : List ℕ) (told : List (Result Reply Refusal)) (middle left : State) (verdict : Result ℕ ClaimRefusal) →
     told ≡ answers m new calls → middle ≡ after m new calls → (ns : List ℕ) → left ≡ put_backs middle ns → Ready left [] → verdict ≡ claims.verdict m claimed → Bound m claimed verdict →

@@ -1,8 +1,9 @@
 -- The slips in hand are those of the rows that are out: so it is at a new sheet, and after each call with its slip kept or
 -- handed in.
-use Rattle.std.proofs.Common.{◌≡◌, ℕ, ◌+◌, ◌<◌, ◌≤◌, Bool, true, false, cond, not, ◌||◌, eqb, leb, List, [], ◌∷◌, ◌++◌, length, Some, None, Ok, Option, sym, refl, ap, ◌∙◌, inl, inr, arith}
+use Rattle.std.proofs.Common.{◌≡◌, ℕ, ◌+◌, ◌<◌, ◌≤◌, Bool, true, false, cond, not, ◌||◌, ◌==◌, eqb, leb, List, [], ◌∷◌, ◌++◌, length, Some, None, Ok, Option, sym, refl, ap, ◌∙◌, inl, inr, arith}
 use lib.Bits.{bit_or}
 use Rattle.std.proofs.lemmas.List.{length_push}
+use Rattle.std.proofs.lemmas.List.Folds.{list_any-append}
 use Rattle.std.proofs.lemmas.Bool.{eq-eqb, eqb-false, cases_eq, both_ways}
 use Rattle.std.proofs.lemmas.Bool.Decides.{nat_tests}
 use Rattle.cubes.specs.declared.cube.Cube.{Cube}
@@ -23,7 +24,6 @@ use Rattle.sheets.specs.declared.reply.Reply.TheVariants.{Gave, Already, Done}
 use Rattle.sheets.specs.declared.refusal.Refusal.TheVariants.{InputAbove, SheetFull, SerialsSpent, RowOut, NotOut, NotJoinable, NoSuchDuty, NotWanted}
 use Rattle.sheets.proofs.Coverage.{row_of_other}
 use Rattle.runs.specs.Hands.{holds, Taken, out_at, tally, outs, Ready}
-use Rattle.runs.proofs.Slips.{holds_push}
 use Rattle.runs.proofs.Outs.{serial_of, out_at_row, out_at_no_row, out_at_in_place, tally_replaced, outs_replaced, out_at_replaced, out_at_back, tally_without, outs_without, out_at_without, out_at_gone, tally_push, out_at_push, outs_push, tally_kept, out_at_kept, outs_kept}
 
 pub ready_new : Ready new []
@@ -31,11 +31,7 @@ ready_new = record { once = λ k. omega arith; unused = λ k l. refl; in_hand = 
 
 -- with no slip left, no row is out
 pub all_in : (s : State) → Ready s [] → (n : ℕ) → out_at s.rows n ≡ false
-all_in s w n = by (out_at s.rows n) (w.in_hand n)
-  where
-    by : (b : Bool) → (b ≡ true → false ≡ true) → b ≡ false
-    by true h = sym (h refl)
-    by false h = refl
+all_in s w n = let h = w.in_hand n in grind arith
 
 module _ (s : State) (ps : List Slip) (w : Ready s ps) where
   -- other rows, no more of any serial
@@ -54,7 +50,7 @@ module _ (s : State) (ps : List Slip) (w : Ready s ps) where
       let sx = serial_of s.rows n r f in
       ready_by (replaced s.rows n x) (ps ++ (p ∷ []))
       (λ k. omega (arith, tally_replaced n x sx s.rows k))
-      (λ k h. let q = holds_push ps p k in elim (cases_eq k n) [
+      (λ k h. let q = list_any-append (λ (t : Slip). t.serial == k) ps (p ∷ []) in elim (cases_eq k n) [
         | inl a ↦ (let t : eqb p.serial k ≡ true = eq-eqb p.serial k (e ∙ sym a) in grind arith)
         | inr a ↦ (let t : holds ps k ≡ true = w.in_hand k (sym (out_at_replaced n x sx s.rows k a) ∙ h) in grind arith)
       ])
@@ -144,11 +140,7 @@ module _ (s : State) (ps : List Slip) (w : Ready s ps) where
     where
       step : (o : Option Row) → row_of s.rows n ≡ o → if_out s o f ≡ refused s NotOut
       step None e = refl
-      step (Some r) e = by r.out refl
-        where
-          by : (b : Bool) → r.out ≡ b → cond b (f r) (refused s NotOut) ≡ refused s NotOut
-          by true o = absurd (both_ways (holds ps n) h (w.in_hand n (out_at_row s.rows n r e o)))
-          by false o = refl
+      step (Some r) e = let o : r.out ≡ true → holds ps n ≡ true = λ q. w.in_hand n (out_at_row s.rows n r e q) in grind arith
 
   -- the calls that take no slip
   ready_added : (c : Cube) → Ready (added s c).after ps

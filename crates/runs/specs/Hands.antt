@@ -1,5 +1,6 @@
 -- The slips that a run holds: those of the rows that are out. The inner steps of a run are promised by this.
-use Rattle.std.specs.Prelude.{◌≡◌, ℕ, ◌+◌, ◌<◌, ◌≤◌, Bool, true, false, cond, ◌&&◌, ◌||◌, List, [], ◌∷◌, length, Some, None, Option, ◌==◌, ◌≢◌}
+use Rattle.std.specs.Prelude.{◌≡◌, ℕ, ◌+◌, ◌<◌, ◌≤◌, Bool, true, false, cond, ◌&&◌, List, [], ◌∷◌, length, Some, None, Option, ◌==◌, ◌≢◌}
+use Rattle.std.specs.List.{list_any}
 use Rattle.sheets.specs.Sheets.{State}
 use Rattle.sheets.specs.Pulling.{put_back}
 use Rattle.sheets.specs.declared.row.Row.{Row}
@@ -7,8 +8,7 @@ use Rattle.sheets.specs.declared.slip.Slip.{Slip}
 
 -- a slip of serial n is in hand
 abbrev pub holds : List Slip → ℕ → Bool
-holds [] n = false
-holds (p ∷ ps) n = p.serial == n || holds ps n
+holds slips n = list_any (λ p. p.serial == n) slips
 
 -- the slip of serial n is taken out; the others stay
 abbrev pub Taken : List Slip → ℕ → List Slip → Option Slip → Type 0
@@ -17,8 +17,7 @@ Taken before n after (Some p) = (p.serial ≡ n) × (length after + 1 ≡ length
 
 -- a row of serial n is out
 abbrev pub out_at : List Row → ℕ → Bool
-out_at [] n = false
-out_at (r ∷ rs) n = (r.out && r.serial == n) || out_at rs n
+out_at rows n = list_any (λ r. r.out && r.serial == n) rows
 
 -- how many rows have serial n, and how many are out
 abbrev pub tally : List Row → ℕ → ℕ

@@ -1,6 +1,6 @@
 -- THE PROMISE OVER WHOLE RUNS. It ranges over every goal that keeps the meaning and the law of goals.
-use Rattle.std.specs.Prelude.{◌≡◌, ℕ, ◌≤◌, cond, List, [], ◌∷◌, ◌++◌, map, length, Ok, Result}
-use Rattle.std.specs.List.{range_with_len}
+use Rattle.std.specs.Prelude.{◌≡◌, ℕ, ◌≤◌, not, List, [], ◌∷◌, ◌++◌, map, length, Ok, Result}
+use Rattle.std.specs.List.{range_with_len, filter}
 use Rattle.cubes.specs.declared.cube.Cube.{Cube}
 use Rattle.goals.specs.Goals.{Meaning}
 use Rattle.sheets.specs.declared.row.Row.{Row}
@@ -16,8 +16,7 @@ use Rattle.claims.specs.Bounds.{Complete, Bound}
 
 -- the rows that are in place
 abbrev pub placed_rows : List Row → List Row
-placed_rows [] = []
-placed_rows (r ∷ rs) = cond r.out (placed_rows rs) (r ∷ placed_rows rs)
+placed_rows rows = filter (λ r. not r.out) rows
 
 -- what a run of calls over a goal, followed by a claim, answers and leaves
 pub record Promise (m : Meaning) (calls : List Call) (claimed : List ℕ) (told : List (Result Reply Refusal)) (left : State) (verdict : Result ℕ ClaimRefusal) : Type 0 where

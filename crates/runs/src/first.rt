@@ -8,17 +8,16 @@ use crate::running::run;
 use goals::goal::Goal;
 use sheets::call::Call;
 use std::alloc::{AllocError, Global};
+use std::iter::once;
 
 // A call to cover each of so many duties, in order, and one to sweep.
 fn calls_for(heap: Global, duties: u32) -> Result<Vec<Call>, AllocError>
     ensures { IfOk result (λ calls. calls.items ≡ first_calls duties) }
 {
-    let mut calls = Vec::new(heap);
-    for duty in 0..duties {
-        calls.push(Call::Cover(duty))?;
-    }
-    calls.push(Call::Sweep)?;
-    Ok(calls)
+    (0..duties)
+        .map(Call::Cover)
+        .chain(once(Call::Sweep))
+        .collect(heap)
 }
 
 // Covers each duty of the goal in order, passing over those that are refused, and sweeps.

@@ -3,6 +3,7 @@ ghost use Rattle.std.specs.Prelude.{◌≡◌, [], vec_capacity};
 ghost use Rattle.sheets.specs.Sheets.{state};
 ghost use Rattle.runs.specs.Hands.{Taken, Ready, Backed};
 
+use crate::bench::Bench;
 use goals::goal::Goal;
 use sheets::row::Serial;
 use sheets::sheet::Sheet;
@@ -13,23 +14,25 @@ pub(crate) fn take_slip(slips: &mut Vec<Slip>, serial: Serial) -> Option<Slip>
     ensures taken { Taken slips.old.items serial slips.new.items result }
     ensures room { vec_capacity slips.new ≡ vec_capacity slips.old }
 {
-    for i in 0..slips.len() {
-        if slips[i].serial() == serial {
-            return Some(slips.remove(i));
-        }
-    }
-    None
+    let i = slips.iter().position(|slip| slip.serial() == serial)?;
+    Some(slips.remove(i))
 }
 
-// Puts back every row that is out, and ends the list of slips.
-pub(crate) fn put_all_back<G: Goal>(sheet: &mut Sheet<G>, mut slips: Vec<Slip>)
-    requires { Ready (state sheet.old) slips.items }
-    ensures back { Backed (state sheet.old) (state sheet.new) }
-    ensures ready { Ready (state sheet.new) [] }
-    ensures same { sheet.new.goal ≡ sheet.old.goal }
-{
-    while let Some(slip) = slips.pop() {
-        let _ = sheet.put_back(slip);
+impl<G: Goal> Bench<G> {
+    // Puts back every row that is out, and ends the list of slips.
+    pub(crate) fn put_all_back(self) -> Sheet<G>
+        ensures back { Backed (state self.sheet) (state result) }
+        ensures ready { Ready (state result) [] }
+        ensures same { result.goal ≡ self.sheet.goal }
+    {
+        let Bench {
+            mut sheet,
+            mut slips,
+        } = self;
+        while let Some(slip) = slips.pop() {
+            let _ = sheet.put_back(slip);
+        }
+        slips.destroy_empty();
+        sheet
     }
-    slips.destroy_empty();
 }

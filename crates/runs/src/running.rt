@@ -3,13 +3,11 @@ ghost use Rattle.std.specs.Prelude.{◌≡◌, IfOk};
 ghost use Rattle.sheets.specs.Sheets.{state};
 ghost use Rattle.runs.specs.Promise.{Promise};
 
+use crate::bench::Bench;
 use crate::finished::Finished;
-use crate::hands::put_all_back;
-use crate::steps::step;
 use claims::claiming::claim;
 use goals::goal::Goal;
 use sheets::call::Call;
-use sheets::sheet::Sheet;
 use std::alloc::{AllocError, Global};
 
 // Makes a sheet for the goal, makes the calls in their order, puts back the rows that are still out, and checks the claim.
@@ -23,13 +21,12 @@ pub fn run<G: Goal + Drop>(
     ensures promise { IfOk result (λ f. Promise (G.means goal) calls.now claimed.now f.answers.items (state f.sheet) f.verdict) }
 {
     let mut answers = Vec::with_capacity(heap, calls.len())?;
-    let mut sheet = Sheet::new(heap, goal)?;
-    let mut slips = Vec::with_capacity(heap, 256)?;
+    let mut bench = Bench::new(heap, goal)?;
     for call in calls {
-        let answer = step(&mut sheet, &mut slips, *call);
+        let answer = bench.step(*call);
         answers.push_reserved(answer);
     }
-    put_all_back(&mut sheet, slips);
+    let sheet = bench.put_all_back();
     let verdict = claim(sheet.goal(), claimed);
     Ok(Finished {
         sheet,

@@ -1,17 +1,13 @@
-use Rattle.std.proofs.Common.{◌≡◌, [], ◌∷◌, ◌++◌, map, sym, ap, ◌∙◌, arith}
-use Rattle.std.specs.List.{range_with_len}
-use Rattle.std.proofs.lemmas.List.FromFn.{map-range_with_len_more}
+use Rattle.std.proofs.Common.{Some, refl, rules, arith}
+use Rattle.std.proofs.lemmas.Iterator.{YieldsList-from_range, YieldsList-from_map, items_from_collect}
+use Rattle.std.proofs.lemmas.Iterator.Consumers.{YieldsList-at, YieldsList-from_chain}
+use Rattle.std.proofs.lemmas.Iterator.Adapters.{YieldsList-from_once}
 use Rattle.sheets.specs.declared.call.Call.TheVariants.{Cover, Sweep}
 use Rattle.runs.proofs.first.calls_for.Goals as goal
 
-pub loop-duty-preserved : goal.loop-duty-preserved
-loop-duty-preserved c =
-    c.in_ok-push.ensures.items
-    ∙ ap (λ xs. xs ++ (Cover c.loop-duty.duty ∷ [])) c.loop-duty.invariant
-    ∙ sym (map-range_with_len_more Cover 0 c.loop-duty.duty c.loop-duty.duty (omega arith))
-
 pub returns : goal.returns
 returns c =
-    let all : c.loop-duty.duty ≡ c.args.duties = omega arith in
-    c.in_ok-push-2.ensures.items
-    ∙ ap (λ xs. xs ++ (Sweep ∷ [])) (c.loop-duty.invariant ∙ ap (λ n. map Cover (range_with_len 0 n)) all)
+    items_from_collect _ c.collect.ensures.ran
+    (YieldsList-from_chain
+    (YieldsList-at c.chain.ensures.first (YieldsList-from_map _ Cover (YieldsList-at c.map.ensures.source (YieldsList-from_range 0 c.args.duties c.args.duties refl (omega arith))) c.map.ensures.closure (λ x r q k. search rules)))
+    (YieldsList-from_once (Some Sweep) cc) c.chain.ensures.first_done c.chain.ensures.second_done)

@@ -1,51 +1,29 @@
--- The slip found is removed, and where none is found none has the serial.
-use Rattle.std.proofs.Common.{◌≡◌, ℕ, ◌<◌, ◌≤◌, List, length, get_or, vec_items, sym, ap, ◌∙◌, arith, below_more}
-use Rattle.std.proofs.lemmas.List.{get_or_default}
-use Rattle.std.proofs.lemmas.List.Edits.{length-remove}
+use Rattle.std.proofs.Common.{◌<◌, List, length, vec_items, refl, subst, rules}
+use Rattle.std.specs.List.{AllWithin, HoldsAt}
+use Rattle.std.specs.Option.{MatchOption}
+use Rattle.std.proofs.lemmas.Iterator.{YieldsList-from_slice, IsFirst-from_position}
+use borrow.Author.Tests.{tests}
 use Rattle.sheets.specs.declared.slip.Slip.{Slip}
-use Rattle.runs.specs.Hands.{holds}
-use Rattle.runs.proofs.Slips.{no_slip, holds_none, holds_removed}
+use Rattle.runs.proofs.Slips.{HasSerial, HasOther, holds_none, taken_at}
 use Rattle.runs.proofs.hands.take_slip.Goals as goal
+use Rattle.runs.proofs.hands.take_slip.Goals.{After-position}
 
-serial_at : (xs : List Slip) (i : ℕ) (p : Slip) → i < length xs → p ≡ get_or xs i p → p.serial ≡ (get_or xs i no_slip).serial
-serial_at xs i p h e = ap (λ (q : Slip). q.serial) (e ∙ get_or_default xs i p no_slip h)
+-- the first slip of the serial, if there is one
+first : (c : After-position) → let ps : List Slip = vec_items c.args.slips.now in let n = c.args.serial in MatchOption c.position.result (AllWithin (HasOther n) ps 0 (length ps)) (λ i. (i < length ps) × HoldsAt (HasSerial n) ps i × AllWithin (HasOther n) ps 0 i)
+first c =
+    let n = c.args.serial in
+    IsFirst-from_position _ _ _ (HasSerial n) (HasOther n) c.position.ensures.ran (YieldsList-from_slice (vec_items c.args.slips.now) cc) (λ x q k. search (rules, tests)) (λ x q k. search (rules, tests))
 
-pub returns-then-serial : goal.returns-then-serial
-returns-then-serial c =
-    let v = c.loop-i.invariant in
-    let ys = vec_items c.loop-i.slips in
-    let i = c.loop-i.i in
-    let e = ap length v.0 in
-    let h : i < length ys = omega (arith, c.args.slips.now.ok.0) in
-    let at : (get_or ys i no_slip).serial ≡ c.args.serial = sym (serial_at ys i c.index.result.now h c.index.ensures) ∙ sym c.serial.ensures ∙ c.if-serial.true in
-    let rest = c.remove.ensures.items in
-    record {
-      taken = (
-        serial_at ys i c.remove.result h c.remove.ensures.value ∙ at,
-        omega (arith, ap length rest, length-remove ys i h),
-        λ k ne. ap (λ l. holds l k) rest ∙ holds_removed ys i c.args.serial k h at ne ∙ ap (λ l. holds l k) v.0,
-      );
-      room = c.remove.ensures.capacity ∙ v.2;
-    }
+pub returns-in_err-i-clause-taken : goal.returns-in_err-i-clause-taken
+returns-in_err-i-clause-taken c =
+    let ps = vec_items c.args.slips.now in
+    let n = c.args.serial in
+    let none = subst (λ o. MatchOption o (AllWithin (HasOther n) ps 0 (length ps)) (λ i. (i < length ps) × HoldsAt (HasSerial n) ps i × AllWithin (HasOther n) ps 0 i)) c.in_err-i.was (first (goal.at.returns-in_err-i-clause-taken c).After-position) in
+    rw c.from_residual.ensures (holds_none n ps none, refl)
 
-pub loop-i-preserved : goal.loop-i-preserved
-loop-i-preserved c =
-    let v = c.loop-i.invariant in
-    let ys = vec_items c.loop-i.slips in
-    let e = ap length v.0 in
-    let h : c.loop-i.i < length ys = omega (arith, c.args.slips.now.ok.0) in (
-      v.0,
-      below_more _ _ v.1 (λ s. c.if-serial.false (c.serial.ensures ∙ serial_at ys c.loop-i.i c.index.result.now h c.index.ensures ∙ s)),
-      v.2,
-    )
-
-pub returns : goal.returns
-returns c =
-    let v = c.loop-i.invariant in
-    let ys = vec_items c.loop-i.slips in
-    let e = ap length v.0 in
-    let h : length ys ≤ c.loop-i.i = omega (arith, c.args.slips.now.ok.0) in
-    record {
-      taken = (ap (λ l. holds l c.args.serial) (sym v.0) ∙ holds_none c.args.serial ys (λ k l. v.1 k (omega arith)), v.0);
-      room = v.2;
-    }
+pub returns-clause-taken : goal.returns-clause-taken
+returns-clause-taken c =
+    let ps = vec_items c.args.slips.now in
+    let n = c.args.serial in
+    let at = subst (λ o. MatchOption o (AllWithin (HasOther n) ps 0 (length ps)) (λ i. (i < length ps) × HoldsAt (HasSerial n) ps i × AllWithin (HasOther n) ps 0 i)) c.in_ok-i.was (first (goal.at.returns-clause-taken c).After-position) in
+    taken_at ps (vec_items c.remove.new.self) c.in_ok-i.i n c.remove.result at.0 at.1 c.remove.ensures.value c.remove.ensures.items

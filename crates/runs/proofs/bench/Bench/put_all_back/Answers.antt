@@ -7,7 +7,7 @@ use Rattle.runs.specs.Hands.{Ready, Taken}
 use Rattle.runs.proofs.Slips.{taken_push}
 use Rattle.runs.proofs.Readiness.{ready_put_back}
 use Rattle.runs.proofs.Backs.{put_backs_push}
-use Rattle.runs.proofs.hands.put_all_back.Goals as goal
+use Rattle.runs.proofs.bench.Bench.put_all_back.Goals as goal
 
 pub loop-slip-preserved : goal.loop-slip-preserved
 loop-slip-preserved g c =
@@ -17,7 +17,7 @@ loop-slip-preserved g c =
     let ps = vec_items c.loop-slip.slips in
     let t : Taken ps p.serial qs (Some p) = subst (λ l. Taken l p.serial qs (Some p)) (sym c.in-Some.ensures.items) (taken_push qs p) in
     let e = c.put_back.ensures.after in (
-      (v.0.0 ++ (p.serial ∷ []), e ∙ ap (λ s. (put_back s p.serial).after) v.0.1 ∙ sym (put_backs_push (state c.args.sheet.now) v.0.0 p.serial)),
+      (v.0.0 ++ (p.serial ∷ []), e ∙ ap (λ s. (put_back s p.serial).after) v.0.1 ∙ sym (put_backs_push (state c.args.self.sheet) v.0.0 p.serial)),
       subst (λ s. Ready s qs) (sym e) (ready_put_back (state c.loop-slip.sheet) ps v.1 qs p p.serial t),
       c.put_back.ensures.same ∙ v.2,
     )
