@@ -11,19 +11,9 @@ pub const MOST_BYTES: usize = 12800;
 pub fn read_input(rt: &HostRuntime) -> io::Result<Vec<u8>>
     ensures { IfOk result (λ bytes. vec_len bytes ≤ 12800) }
 {
-    let mut bytes = vec![in rt.alloc(); 0u8; MOST_BYTES]?;
-    let mut input = rt.stdin();
-    let mut filled = 0;
-    for _ in 0..MOST_BYTES {
-        if filled >= bytes.len() {
-            break;
-        }
-        let more = input.read(&mut bytes[filled..])?;
-        if more == 0 {
-            break;
-        }
-        filled += more;
-    }
-    bytes.truncate(filled);
+    let mut bytes = Vec::with_capacity(rt.alloc(), MOST_BYTES)?;
+    rt.stdin().take(MOST_BYTES as u64).read_to_end(&mut bytes)?;
+    // Nothing is cut off here: `take` gave no more, but `read_to_end` promises no length.
+    bytes.truncate(MOST_BYTES);
     Ok(bytes)
 }

@@ -40,6 +40,7 @@ pub fn find_all<D: Device>(heap: Global, device: &D) -> Result<Vec<Finding>, All
     let Ok(()) = labels(device, &mut list) else {
         return Ok(found);
     };
+    // By number, since each machine is asked for by its number; its label stands at that place.
     for machine in 0..device.machines() {
         found.push(finding(device, machine, list[machine as usize]))?;
     }

@@ -41,7 +41,7 @@ pub fn report<D: Device>(heap: Global, device: &D) -> Result<String, AllocError>
     let found = find_all(heap, device)?;
     let inputs = device.inputs();
     let mut text = String::new(heap);
-    for finding in found.as_slice() {
+    for finding in &found {
         text.push_str(line(heap, inputs, *finding)?.as_str())?;
     }
     Ok(text)

@@ -1,5 +1,3 @@
-pub mod Cutting
 pub mod Reading
 pub mod Masking
-pub mod Asking
 pub mod Adding

@@ -1,5 +1,6 @@
 -- Which cube a word of letters is.
-use Rattle.std.specs.Prelude.{ℕ, Bool, true, cond, ◌&&◌, ◌||◌, List, [], ◌∷◌, length, None, Option, ◌==◌, nat_eq, nat_lt, slice_index}
+use Rattle.std.specs.Prelude.{ℕ, Bool, cond, ◌&&◌, ◌||◌, List, length, None, Option, ◌==◌, nat_eq, nat_lt, slice_index}
+use Rattle.std.specs.List.{list_all}
 use Rattle.cubes.specs.Masks.{mask_of}
 use Rattle.cubes.specs.Cubes.{of_masks}
 use Rattle.cubes.specs.declared.cube.Cube.{Cube}
@@ -10,8 +11,7 @@ is_letter b = b == 48 || (b == 49 || b == 88)
 
 -- every byte is 0, 1 or X
 abbrev pub letters_only : List ℕ → Bool
-letters_only [] = true
-letters_only (b ∷ bs) = is_letter b && letters_only bs
+letters_only bs = list_all is_letter bs
 
 -- the inputs whose letter is this: input i has the letter at place i
 abbrev pub inputs_of : ℕ → List ℕ → ℕ → ℕ

@@ -1,5 +1,6 @@
 -- Decimal numerals: which words are one, and the value of each.
-use Rattle.std.specs.Prelude.{ℕ, ◌+◌, ◌-◌, ◌*◌, Bool, true, cond, ◌&&◌, List, [], ◌∷◌, length, Some, None, Option, ◌==◌, nat_le, nat_lt}
+use Rattle.std.specs.Prelude.{ℕ, ◌+◌, ◌-◌, ◌*◌, Bool, cond, ◌&&◌, List, [], ◌∷◌, length, Some, None, Option, ◌==◌, nat_le, nat_lt}
+use Rattle.std.specs.List.{list_all}
 
 -- the byte is a digit
 abbrev pub digit : ℕ → Bool
@@ -7,8 +8,7 @@ digit b = nat_le 48 b && nat_le b 57
 
 -- every byte is a digit
 abbrev pub numeral : List ℕ → Bool
-numeral [] = true
-numeral (b ∷ bs) = digit b && numeral bs
+numeral bs = list_all digit bs
 
 -- the value of a numeral whose front has the value n
 abbrev pub value_from : ℕ → List ℕ → ℕ

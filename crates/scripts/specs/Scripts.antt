@@ -1,10 +1,12 @@
 -- What a whole script asks: the lines are added to it one by one.
-use Rattle.std.specs.Prelude.{◌≡◌, ℕ, ◌+◌, Bool, true, false, cond, ◌||◌, List, [], ◌∷◌, ◌++◌, length, drop, is_some, Some, None, Ok, Err, vec_items, Option, Result, Vec, nat_lt}
+use Rattle.std.specs.Prelude.{◌≡◌, ℕ, ◌+◌, cond, ◌||◌, List, [], ◌∷◌, ◌++◌, length, drop, is_some, Some, None, Ok, Err, vec_items, Option, Result, Vec, nat_lt}
 use Rattle.std.specs.declared.alloc.Global.{Global}
 use Rattle.sheets.specs.declared.call.Call.{Call}
 use Rattle.scripts.specs.declared.script.Line.{Line}
 use Rattle.scripts.specs.declared.script.Line.TheVariants as line
 use Rattle.scripts.specs.declared.script.Script.{Script}
+use Rattle.scripts.specs.declared.refusal.LineRefusal.{LineRefusal}
+use Rattle.scripts.specs.declared.refusal.LineRefusal.TheVariants as line_refusal
 use Rattle.scripts.specs.declared.script.Unreadable.{Unreadable}
 use Rattle.scripts.specs.declared.script.Unreadable.TheVariants.{NotUnderstood, NoMemory}
 use Rattle.scripts.specs.Numerals.{number_of}
@@ -20,6 +22,12 @@ all_numbers (w ∷ ws) = of_two (λ n ns. n ∷ ns) (number_of w) (all_numbers w
 abbrev pub listed : Option (Vec ℕ Global) → Option (List ℕ)
 listed None = None
 listed (Some v) = Some (vec_items v)
+
+-- what reading the numbers of a claim answers
+abbrev pub Numbered : Option (List ℕ) → Result (Vec ℕ Global) LineRefusal → Type 0
+Numbered o (Ok v) = o ≡ Some (vec_items v)
+Numbered o (Err line_refusal.NotUnderstood) = o ≡ None
+Numbered o (Err line_refusal.NoMemory) = Unit {0}
 
 -- the duties to excuse, then the calls, then the claim, where there is one
 pub record Plan : Type 0 where
@@ -60,9 +68,10 @@ abbrev pub adds : Plan → List (List ℕ) → Option Plan
 adds p ws = with_line p (line_of ws) ws
 
 -- what a call that adds to a script answers, and the plan that it leaves
-abbrev pub Becomes : Option Plan → Bool → Plan → Type 0
-Becomes o true q = o ≡ Some q
-Becomes o false q = o ≡ None
+abbrev pub Added : Option Plan → Plan → Result (Unit {0}) LineRefusal → Type 0
+Added o q (Ok _) = o ≡ Some q
+Added o q (Err line_refusal.NotUnderstood) = o ≡ None
+Added o q (Err line_refusal.NoMemory) = Unit {0}
 
 -- the plan so far, or the number of the first line that is not understood, after one more line
 abbrev pub found : Option Plan → ℕ → Result Plan ℕ
@@ -81,11 +90,6 @@ reads r n (l ∷ ls) = reads (next r n l) (n + 1) ls
 -- what a text asks, or the first line that is not understood; lines count from 1
 abbrev pub script_of : List ℕ → Result Plan ℕ
 script_of text = reads (Ok empty) 1 (lines_of text)
-
--- what reading the lines of a text answers, where there is memory
-abbrev pub told : Result Script ℕ → Result Plan ℕ
-told (Ok s) = Ok (plan s)
-told (Err n) = Err n
 
 -- what reading a text answers
 abbrev pub Read : List ℕ → Result Script Unreadable → Type 0

@@ -1,23 +1,25 @@
 // The duties that a claim names.
-ghost use Rattle.std.specs.Prelude.{◌≡◌, drop, IfOk};
+ghost use Rattle.std.specs.Prelude.{drop};
 ghost use Rattle.scripts.specs.Words.{texts};
-ghost use Rattle.scripts.specs.Scripts.{all_numbers, listed};
+ghost use Rattle.scripts.specs.Scripts.{all_numbers, Numbered};
 
 use crate::numbers::number_of;
-use crate::piece::Piece;
-use crate::words::word_at;
-use std::alloc::{AllocError, Global};
+use crate::refusal::LineRefusal;
+use std::alloc::Global;
 
-// The numbers that the words after the first are; none where one of them is no number.
-pub fn numbers_of(heap: Global, words: &[Piece]) -> Result<Option<Vec<u32>>, AllocError>
-    ensures { IfOk result (λ o. listed o ≡ all_numbers (drop 1 (texts words.now))) }
+// The numbers that the words after the first are; not understood where one of them is no number.
+pub fn numbers_of(heap: Global, words: &[&[u8]]) -> Result<Vec<u32>, LineRefusal>
+    ensures { Numbered (all_numbers (drop 1 (texts words.now))) result }
 {
     let mut numbers = Vec::new(heap);
-    for i in 1..words.len() {
-        match number_of(word_at(words, i)) {
-            Some(number) => numbers.push(number)?,
-            None => return Ok(None),
-        }
+    let [_, duties @ ..] = words else {
+        return Ok(numbers);
+    };
+    for word in duties {
+        let Some(number) = number_of(word) else {
+            return Err(LineRefusal::NotUnderstood);
+        };
+        numbers.push(number)?;
     }
-    Ok(Some(numbers))
+    Ok(numbers)
 }

@@ -10,19 +10,14 @@ use cubes::mask::Mask;
 fn is_letter(byte: u8) -> bool
     ensures { result ≡ is_letter byte }
 {
-    byte == 48 || byte == 49 || byte == 88
+    matches!(byte, b'0' | b'1' | b'X')
 }
 
 // Every byte is 0, 1 or X.
 fn has_letters_only(word: &[u8]) -> bool
     ensures { result ≡ letters_only word.now }
 {
-    for byte in word {
-        if !is_letter(*byte) {
-            return false;
-        }
-    }
-    true
+    word.iter().all(|byte| is_letter(*byte))
 }
 
 // The inputs that have this letter: input i has the letter at place i.
@@ -30,32 +25,25 @@ fn inputs_of(letter: u8, word: &[u8]) -> Mask
     requires { length word.now ≤ 16 }
     ensures { result ≡ inputs_of letter word.now (length word.now) }
 {
-    let mut inputs: u32 = 0;
-    let mut bit: u32 = 1;
-    for byte in word {
-        if *byte == letter {
-            inputs += bit;
-        }
-        bit *= 2;
+    let mut inputs = 0;
+    for (i, byte) in word.iter().enumerate() {
+        inputs |= Mask::from(*byte == letter) << i;
     }
-    inputs as Mask
+    inputs
 }
 
 // The cube with these inputs 0 and 1.
 fn cube_with(zeros: Mask, ones: Mask) -> Option<Cube>
     ensures { result ≡ of_masks zeros ones }
 {
-    match Cube::from_masks(zeros, ones) {
-        Ok(cube) => Some(cube),
-        Err(_) => None,
-    }
+    Cube::from_masks(zeros, ones).ok()
 }
 
 // The word is a dash.
 fn is_dash(word: &[u8]) -> bool
     ensures { result ≡ dash word.now }
 {
-    word.len() == 1 && word[0] == b'-'
+    matches!(word, [b'-'])
 }
 
 // The cube of one to 16 letters 0, 1 or X, input 0 first; inputs with no letter are unknown, and a dash alone is the cube
@@ -63,7 +51,7 @@ fn is_dash(word: &[u8]) -> bool
 pub fn cube_of(word: &[u8]) -> Option<Cube>
     ensures { result ≡ cube_of word.now }
 {
-    if word.len() == 0 || word.len() > 16 {
+    if word.is_empty() || word.len() > 16 {
         return None;
     }
     if is_dash(word) {

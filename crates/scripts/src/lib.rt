@@ -8,7 +8,7 @@ pub mod kinds;
 pub mod lines;
 pub mod numbers;
 pub mod parsing;
-pub mod piece;
+pub mod refusal;
 pub mod script;
 pub mod telling;
 #[cfg(test)]

@@ -5,44 +5,33 @@ ghost use Rattle.scripts.specs.Lines.{passed_over, verb_of, takes, asks, line_of
 
 use crate::cubing::cube_of;
 use crate::numbers::{number_of, serial_of};
-use crate::piece::Piece;
 use crate::script::{Line, Verb};
-use crate::words::{is_word, word_at};
+use crate::words::word_at;
 use sheets::call::Call;
 
 // A line with this first word is passed over: there is no word, or it begins with #.
 fn is_passed_over(word: &[u8]) -> bool
     ensures { result ≡ passed_over word.now }
 {
-    word.len() == 0 || word[0] == b'#'
+    matches!(word, [] | [b'#', ..])
 }
 
 // The verb that a word is.
 fn verb_of(word: &[u8]) -> Option<Verb>
     ensures { result ≡ verb_of word.now }
 {
-    if is_word(word, b"excuse") {
-        Some(Verb::Excuse)
-    } else if is_word(word, b"enter") {
-        Some(Verb::Enter)
-    } else if is_word(word, b"cover") {
-        Some(Verb::Cover)
-    } else if is_word(word, b"pull") {
-        Some(Verb::Pull)
-    } else if is_word(word, b"back") {
-        Some(Verb::Back)
-    } else if is_word(word, b"strike") {
-        Some(Verb::Strike)
-    } else if is_word(word, b"exchange") {
-        Some(Verb::Exchange)
-    } else if is_word(word, b"join") {
-        Some(Verb::Join)
-    } else if is_word(word, b"sweep") {
-        Some(Verb::Sweep)
-    } else if is_word(word, b"claim") {
-        Some(Verb::Claim)
-    } else {
-        None
+    match word {
+        b"excuse" => Some(Verb::Excuse),
+        b"enter" => Some(Verb::Enter),
+        b"cover" => Some(Verb::Cover),
+        b"pull" => Some(Verb::Pull),
+        b"back" => Some(Verb::Back),
+        b"strike" => Some(Verb::Strike),
+        b"exchange" => Some(Verb::Exchange),
+        b"join" => Some(Verb::Join),
+        b"sweep" => Some(Verb::Sweep),
+        b"claim" => Some(Verb::Claim),
+        _ => None,
     }
 }
 
@@ -51,14 +40,9 @@ fn may_take(verb: Verb, words: usize) -> bool
     ensures { result ≡ takes verb words }
 {
     match verb {
-        Verb::Excuse => words == 2,
-        Verb::Enter => words == 2,
-        Verb::Cover => words == 2,
-        Verb::Pull => words == 2,
-        Verb::Back => words == 2,
-        Verb::Strike => words == 2,
-        Verb::Exchange => words == 3,
-        Verb::Join => words == 3,
+        Verb::Excuse | Verb::Enter | Verb::Cover => words == 2,
+        Verb::Pull | Verb::Back | Verb::Strike => words == 2,
+        Verb::Exchange | Verb::Join => words == 3,
         Verb::Sweep => words == 1,
         Verb::Claim => true,
     }
@@ -83,21 +67,16 @@ fn asked(verb: Verb, first: &[u8], second: &[u8]) -> Option<Line>
 }
 
 // What a line asks, by its words; none where it is not understood. The numbers of a claim are read apart.
-pub fn line_of(words: &[Piece]) -> Option<Line>
+pub fn line_of(words: &[&[u8]]) -> Option<Line>
     ensures { result ≡ line_of (texts words.now) }
 {
     let word = word_at(words, 0);
     if is_passed_over(word) {
         return Some(Line::Nothing);
     }
-    match verb_of(word) {
-        Some(verb) => {
-            if may_take(verb, words.len()) {
-                asked(verb, word_at(words, 1), word_at(words, 2))
-            } else {
-                None
-            }
-        }
-        None => None,
+    let verb = verb_of(word)?;
+    if !may_take(verb, words.len()) {
+        return None;
     }
+    asked(verb, word_at(words, 1), word_at(words, 2))
 }

@@ -6,14 +6,15 @@ ghost use Rattle.scripts.specs.Numerals.{digit, number_of, serial_of};
 fn is_digit(byte: u8) -> bool
     ensures { result ≡ digit byte }
 {
-    byte >= 48 && byte <= 57
+    matches!(byte, b'0'..=b'9')
 }
 
 // The value of a decimal numeral; none where a byte is no digit, the word is empty, or the value does not fit.
 pub fn number_of(word: &[u8]) -> Option<u32>
     ensures { result ≡ number_of word.now }
 {
-    if word.len() == 0 {
+    // Byte by byte, since `parse` would take a sign too.
+    if word.is_empty() {
         return None;
     }
     let mut value: u64 = 0;
@@ -21,7 +22,7 @@ pub fn number_of(word: &[u8]) -> Option<u32>
         if !is_digit(*byte) {
             return None;
         }
-        value = value * 10 + (*byte - 48) as u64;
+        value = value * 10 + u64::from(*byte - b'0');
         if value >= 4294967296 {
             return None;
         }
@@ -33,14 +34,5 @@ pub fn number_of(word: &[u8]) -> Option<u32>
 pub fn serial_of(word: &[u8]) -> Option<u16>
     ensures { result ≡ serial_of word.now }
 {
-    match number_of(word) {
-        Some(value) => {
-            if value < 65536 {
-                Some(value as u16)
-            } else {
-                None
-            }
-        }
-        None => None,
-    }
+    u16::try_from(number_of(word)?).ok()
 }

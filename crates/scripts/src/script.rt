@@ -1,5 +1,9 @@
 // What a script asks, as values.
+ghost use Rattle.std.specs.Prelude.{◌≡◌};
+ghost use Rattle.scripts.specs.declared.script.Unreadable.TheVariants.{NoMemory};
+
 use sheets::call::Call;
+use std::alloc::AllocError;
 
 // What one line asks. The duties of a claim stand in the line's words.
 #[derive(Clone, Copy, Debug)]
@@ -39,4 +43,12 @@ pub struct Script {
 pub enum Unreadable {
     NotUnderstood { line: usize },
     NoMemory,
+}
+
+impl From<AllocError> for Unreadable {
+    ghost from_gives = { λ _ unreadable. unreadable ≡ NoMemory };
+
+    fn from(_error: AllocError) -> Unreadable {
+        Unreadable::NoMemory
+    }
 }

@@ -1,4 +1,4 @@
-// The lines that say what was answered.
+// The lines that say what was answered. They are functions and no Display, since other crates have the types.
 ghost use Rattle.std.specs.Prelude.{◌≡◌, IfOk, string_bytes};
 ghost use Rattle.scripts.specs.Telling.{duty_left_bare, refused_text, answer_line, claim_line, excuse_line, unread_line};
 
@@ -13,17 +13,8 @@ fn duty_left_bare(refusal: Refusal) -> Option<u32>
     ensures { result ≡ duty_left_bare refusal }
 {
     match refusal {
-        Refusal::InputAbove => None,
-        Refusal::SheetFull => None,
-        Refusal::SerialsSpent => None,
-        Refusal::NoSuchRow => None,
-        Refusal::RowOut => None,
-        Refusal::NotOut => None,
         Refusal::DutyLeftBare(duty) => Some(duty),
-        Refusal::NotJoinable => None,
-        Refusal::NoSuchDuty => None,
-        Refusal::NotWanted => None,
-        Refusal::NotCoverable => None,
+        _ => None,
     }
 }
 
@@ -56,10 +47,7 @@ pub fn excuse_line(heap: Global, answer: Result<(), NotExcused>) -> Result<Strin
 {
     match answer {
         Ok(_) => String::from_str(heap, "ok"),
-        Err(refusal) => {
-            let number = refusal.number();
-            format!(in heap; "refused {number}")
-        }
+        Err(refusal) => refused_line(heap, refusal.number(), None),
     }
 }
 

@@ -34,7 +34,7 @@ pub fn work(rt: &HostRuntime, board: Board, kind: Kind, script: &Script) -> anyh
 fn work_for<G: Goal + Drop>(rt: &HostRuntime, goal: G, script: &Script) -> anyhow::Result<()> {
     let heap = rt.alloc();
     let mut goal = Excused::new(heap, goal)?;
-    for duty in script.excused.as_slice() {
+    for duty in &script.excused {
         let answer = goal.excuse(*duty);
         rt.println(excuse_line(heap, answer)?)?;
     }
@@ -42,7 +42,7 @@ fn work_for<G: Goal + Drop>(rt: &HostRuntime, goal: G, script: &Script) -> anyho
         Some(duties) => run(heap, goal, script.calls.as_slice(), duties.as_slice())?,
         None => run(heap, goal, script.calls.as_slice(), &[])?,
     };
-    for answer in finished.answers.as_slice() {
+    for answer in &finished.answers {
         rt.println(answer_line(heap, *answer)?)?;
     }
     if script.claimed.is_some() {

@@ -5,7 +5,7 @@
 
 mod bench;
 
-use anyhow::anyhow;
+use anyhow::{Context, anyhow};
 use bench::work;
 use boards::board::Board;
 use console::saying::say_refused;
@@ -21,16 +21,10 @@ use std::{env, fs};
 fn arguments(rt: &HostRuntime) -> anyhow::Result<(String, Kind)> {
     let mut words = env::args(rt)?;
     let _ = words.next();
-    let Some(name) = words.next() else {
-        return Err(anyhow!("no board is named"));
-    };
-    let Some(word) = words.next() else {
-        return Err(anyhow!("no goal is named"));
-    };
-    match kind_of(word.as_bytes()) {
-        Some(kind) => Ok((name, kind)),
-        None => Err(anyhow!("the goal is detect, tell or both")),
-    }
+    let name = words.next().context("no board is named")?;
+    let word = words.next().context("no goal is named")?;
+    let kind = kind_of(word.as_bytes()).context("the goal is detect, tell or both")?;
+    Ok((name, kind))
 }
 
 // All of standard input.

@@ -17,17 +17,17 @@ pub line-requires : goal.line-requires
 line-requires g c =
     let d = c.args.device.now in
     let m = g.D.Device.means d in
-    let fs = c.as_slice-finding-items.result.now in
+    let fs = c.deref-finding-items.result.now in
     let k = c.loop-finding.finding-index in
     let h = c.in_ok-found.ensures in
-    let same : fs ≡ vec_items c.in_ok-found.found = c.as_slice-finding-items.ensures.value in
+    let same : fs ≡ vec_items c.in_ok-found.found = c.deref-finding-items.ensures.value in
     let l : length fs ≡ m.machines = ap length same ∙ h.0 in
     let found : Found m k (get_or fs k no_finding) = subst (λ (xs : List Finding). Found m k (get_or xs k no_finding)) (sym same) (h.1 k (omega (arith, c.loop-finding-test.true))) in
     is_shown m (g.met.D.Device.lawful d) c.inputs-inputs.result c.inputs-inputs.ensures _ _ found.shown
 
 pub loop-finding-preserved : goal.loop-finding-preserved
 loop-finding-preserved g c =
-    let fs = c.as_slice-finding-items.result.now in
+    let fs = c.deref-finding-items.result.now in
     let k = c.loop-finding.finding-index in
     let n = c.inputs-inputs.result in
     let one : string_bytes c.in_ok-line.field-0 ≡ line n (get_or fs k no_finding) = c.in_ok-line.ensures in
@@ -40,11 +40,11 @@ loop-finding-preserved g c =
 pub returns : goal.returns
 returns g c =
     let m = g.D.Device.means c.args.device.now in
-    let fs = c.as_slice-finding-items.result.now in
+    let fs = c.deref-finding-items.result.now in
     let all = take_all c.loop-finding.finding-index fs c.loop-finding-test.false in (
       vec_items c.in_ok-found.found,
       c.in_ok-found.ensures,
       c.loop-finding.invariant
-          ∙ ap (flat_map (line c.inputs-inputs.result)) (all ∙ c.as_slice-finding-items.ensures.value)
+          ∙ ap (flat_map (line c.inputs-inputs.result)) (all ∙ c.deref-finding-items.ensures.value)
           ∙ ap (λ n. flat_map (line n) (vec_items c.in_ok-found.found)) c.inputs-inputs.ensures,
     )

@@ -1,11 +1,21 @@
-use Rattle.scripts.proofs.Adding.{no_number, one_number, all_words}
+use Rattle.std.proofs.Common.{◌-◌, length, take, drop, sym, ◌∙◌}
+use Rattle.scripts.proofs.Adding.{part_at, later_words, no_number, one_number, all_words}
 use Rattle.scripts.proofs.claiming.numbers_of.Goals as goal
 
-pub returns-in-None : goal.returns-in-None
-returns-in-None c = no_number c.args.words.now _ c.loop-i.i c.loop-i.invariant _ c.loop-i-test.true c.word_at.ensures c.in-None.ensures
+pub returns-in_default-number_of : goal.returns-in_default-number_of
+returns-in_default-number_of c =
+    let ws = c.args.words.now in
+    let ds = take (length ws - 1) (drop 1 ws) in
+    sym (no_number ds _ c.loop-word.word-index c.loop-word.invariant _ c.loop-word-test.true (part_at ds c.loop-word.word-index _ c.loop-word-test.true) c.in_default-number_of.ensures ∙ later_words ws)
 
-pub loop-i-preserved : goal.loop-i-preserved
-loop-i-preserved c = one_number c.args.words.now _ c.loop-i.i c.loop-i.invariant _ _ _ c.loop-i-test.true c.word_at.ensures c.in-Some.ensures c.in_ok-push-in-Some.ensures.items
+pub loop-word-preserved : goal.loop-word-preserved
+loop-word-preserved c =
+    let ws = c.args.words.now in
+    let ds = take (length ws - 1) (drop 1 ws) in
+    one_number ds _ c.loop-word.word-index c.loop-word.invariant _ _ _ c.loop-word-test.true (part_at ds c.loop-word.word-index _ c.loop-word-test.true) c.in-Some.ensures c.in_ok-push.ensures.items
 
 pub returns : goal.returns
-returns c = all_words c.args.words.now _ c.loop-i.i c.loop-i.invariant c.loop-i-test.false
+returns c =
+    let ws = c.args.words.now in
+    let ds = take (length ws - 1) (drop 1 ws) in
+    sym (all_words ds _ c.loop-word.word-index c.loop-word.invariant c.loop-word-test.false ∙ later_words ws)

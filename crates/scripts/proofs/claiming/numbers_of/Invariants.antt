@@ -4,5 +4,5 @@ use Rattle.scripts.specs.Lines.{of_one}
 use Rattle.scripts.specs.Scripts.{all_numbers}
 use Rattle.scripts.proofs.claiming.numbers_of.Given as goal
 
-abbrev pub invariant-loop-i : goal.invariant-loop-i
-invariant-loop-i l = all_numbers (drop 1 (texts l.words)) ≡ of_one (λ ns. vec_items l.numbers ++ ns) (all_numbers (drop l.i (texts l.words)))
+abbrev pub invariant-loop-word : goal.invariant-loop-word
+invariant-loop-word l = all_numbers (texts l.duties) ≡ of_one (λ ns. vec_items l.numbers ++ ns) (all_numbers (drop l.word-index (texts l.duties)))

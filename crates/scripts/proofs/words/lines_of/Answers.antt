@@ -1,6 +1,7 @@
-use Rattle.std.proofs.Common.{refl, arith}
-use Rattle.scripts.proofs.Cutting.{lines_end}
+use Rattle.std.proofs.Common.{rules, tests}
+use Rattle.std.proofs.lemmas.Iterator.Consumers.{map_from_collect}
+use Rattle.std.proofs.lemmas.Iterator.Splits.{YieldsList-from_slice_split}
 use Rattle.scripts.proofs.words.lines_of.Goals as goal
 
 pub returns : goal.returns
-returns c = lines_end c.args.text.now _ _ _ c.loop-i.start 0 c.loop-i.i c.loop-i.invariant.1 (omega arith) refl c.in_ok-push-2.ensures.items
+returns c = map_from_collect _ c.collect.ensures.ran (YieldsList-from_slice_split _ _ c.args.text.now c.split.ensures.rest c.split.ensures.done c.split.ensures.closure (λ x r q k. search (rules, tests)))

@@ -1,7 +1,0 @@
-use Rattle.std.proofs.Common.{◌≡◌, ◌+◌, drop, Ok, vec_items}
-use Rattle.scripts.specs.Words.{texts}
-use Rattle.scripts.specs.Scripts.{plan, reads, script_of}
-use Rattle.scripts.proofs.parsing.read_lines.Given as goal
-
-abbrev pub invariant-loop-i : goal.invariant-loop-i
-invariant-loop-i l = script_of l.text ≡ reads (Ok (plan l.script)) (l.i + 1) (drop l.i (texts (vec_items l.lines)))
