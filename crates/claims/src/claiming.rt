@@ -35,6 +35,7 @@ pub fn claim<G: Goal>(goal: &G, duties: &[u32]) -> Result<u16, ClaimRefusal>
         return Err(ClaimRefusal::TooMany);
     }
     let claimed = Named { goal, duties };
+    // Each search answers a place, if it finds one, and here each place gets the name of its refusal.
     if let Some(place) = claimed.first_no_such() {
         return Err(ClaimRefusal::NoSuchDuty { place });
     }

@@ -9,7 +9,7 @@ use cubes::cube::Cube;
 use cubes::mask::Mask;
 use goals::goal::Goal;
 
-// The smaller of two pairs, where there are two.
+// The smaller of two pairs, or the one that there is.
 fn the_sooner(a: Option<Pair>, b: Option<Pair>) -> Option<Pair>
     ensures { result ≡ sooner a b }
 {

@@ -1,5 +1,5 @@
-// Cubes: what is known of each input of a card, as two masks, and the walk through all vectors, 64 at a time. The lowest
-// layer: all others speak of cubes.
+// Cubes: what is known of each input of a card, as two masks, and the walk through all vectors, one by one or 64
+// at a time. The lowest layer: all others speak of cubes.
 #![tactic(auto)]
 
 pub mod block;

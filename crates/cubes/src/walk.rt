@@ -1,5 +1,5 @@
 // The walk through all vectors of some inputs, one by one or 64 at a time, and the search for the smallest that passes. Which
-// vectors a search looks at, and in which order, is known here alone.
+// vectors such a search looks at, and in which order, is known here alone.
 ghost use Rattle.std.specs.Prelude.{◌≡◌, ℕ, ◌+◌, ◌*◌, ◌/◌, ◌^◌, ◌<◌, ◌≤◌, min, Bool, nat_lt, slice_index};
 ghost use Rattle.cubes.specs.Masks.{most_inputs, has};
 ghost use Rattle.cubes.specs.Searching.{Sought, First};
@@ -114,10 +114,7 @@ fn passes_at<Q: Question>(question: &Q, number: Mask) -> bool
     requires { number < 2 ^ (Q.asks question.now).inputs }
     ensures { result ≡ (Q.asks question.now).passes number }
 {
-    match Cube::vector(question.inputs(), number) {
-        Some(cube) => question.passes(cube),
-        None => false,
-    }
+    Cube::vector(question.inputs(), number).is_some_and(|cube| question.passes(cube))
 }
 
 // The smallest vector that passes, asked one by one. It stops at the first one.

@@ -22,7 +22,8 @@ fn label_of<D: Device>(device: &D, k: u16, list: &[u16]) -> u16
     requires earlier { (j : ℕ) → j < k → Label (D.means device.now) j (slice_index list.now j) }
     ensures { Label (D.means device.now) k result }
 {
-    // By the machines and not by the list: what is answered is a machine.
+    // By the machines and not by the list, since what is answered is a machine; and no `find`, whose closure would index the list
+    // at any machine.
     for j in 0..k {
         if list[usize::from(j)] == j && equivalent(device, j, k) {
             return j;

@@ -72,6 +72,7 @@ impl Pairs {
         requires { self.now.n + 2 ≤ length answers.now }
         ensures { (d : ℕ) → d < length marks.new → slice_index_or marks.new d false ≡ tells_by answers.now (slice_get (pairs 1 self.now.n) d) }
     {
+        // The pair is walked on beside the entries, since to find each by its number is to pass over all before it.
         let top = self.n + 1;
         let mut i: u16 = 1;
         let mut j: u16 = 2;
@@ -122,14 +123,14 @@ impl<D: Device> Goal for Distinction<D> {
     }
 
     fn covers(&self, cube: Cube, duty: u32) -> bool {
-        match Pairs::of(&self.device).at(duty) {
-            Some((i, j)) => told_apart(self.device.answer(i, cube), self.device.answer(j, cube)),
-            None => false,
-        }
+        Pairs::of(&self.device).at(duty).is_some_and(|(i, j)| {
+            told_apart(self.device.answer(i, cube), self.device.answer(j, cube))
+        })
     }
 
     // Asks each machine once, and compares the answers.
     fn mark(&self, cube: Cube, marks: &mut [bool]) {
+        // Fixed memory: marking is never refused for want of it.
         let mut answers = [Answer { zeros: 0, ones: 0 }; 256];
         ask_all(&self.device, cube, &mut answers);
         Pairs::of(&self.device).mark(&answers, marks);
