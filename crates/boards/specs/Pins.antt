@@ -1,4 +1,4 @@
--- The pins of a gate: how many it has, and what AND, OR and XOR make of one pin more.
+-- The pins of a gate: how many it has, and what AND, OR and XOR make of them when they take them in one by one.
 use Rattle.std.specs.Prelude.{◌≡◌, ℕ, ◌<◌, ◌≤◌, Bool, true, false, cond, not, ◌&&◌, ◌||◌, List, [], ◌∷◌, map, length, ◌==◌, nat_le, slice_index, refl}
 use Rattle.std.proofs.Common.{sym, ap, ◌∙◌, arith}
 use Rattle.std.specs.List.{fold}

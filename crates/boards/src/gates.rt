@@ -55,7 +55,8 @@ fn xor(a: Value, b: Value) -> Value
 }
 
 impl Pins<'_> {
-    // What an AND of them makes.
+    // What an AND of them makes. Each operation has its own chain: with the operation as a parameter, tried as a closure and as a
+    // match before the fold, the contract stayed open.
     fn all(&self) -> Value
         ensures { result ≡ fold and2 One (map (read self.now.values.now) self.now.lines.now) }
     {

@@ -23,6 +23,7 @@ fn check_all(bytes: &[u8]) -> Result<(), Unread>
     }
     let mut seen = Seen::default();
     for (r, record) in records.iter().enumerate() {
+        // By `if let`, since the closure of a `map_err` would borrow the place that the loop counts.
         if let Err(t) = seen.admit(record) {
             return Err(Unread::Bad(t, r));
         }
@@ -76,7 +77,7 @@ impl Board {
         self.faults.push_reserved(fault);
     }
 
-    // Adds what a good record describes.
+    // Adds what a good record describes. Such a record always comes apart, and its kind is known: there is nothing to refuse with.
     fn add(&mut self, bytes: &[u8; 16])
         requires { trouble (counts (card_of self.old)) bytes.now ≡ None }
         ensures { card_of self.new ≡ with_record (card_of self.old) bytes.now }

@@ -27,7 +27,7 @@ fn pins_fit(kind: Kind, count: u16) -> bool
 }
 
 impl Record<'_> {
-    // Takes a record apart.
+    // Takes a record apart. It has a name and is no TryFrom, since a record is no other form of its bytes but borrows them.
     pub(crate) fn parted(bytes: &[u8; 16]) -> Result<Record<'_>, UnknownMark>
         ensures { Parted bytes.now result }
     {
@@ -65,6 +65,7 @@ impl Record<'_> {
     {
         match self.class {
             Class::Input => true,
+            // By `match`: with `is_ok_and`, tried, the promise stayed open.
             Class::Gate => match Kind::try_from(self.field) {
                 Ok(kind) => pins_fit(kind, self.word),
                 Err(_) => false,

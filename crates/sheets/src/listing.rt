@@ -19,6 +19,7 @@ struct Line<'a> {
 }
 
 impl Line<'_> {
+    // How long the line is.
     #[tactic(auto, using(crate::proofs::Lines::length_line, texts::proofs::Placing::decimal_length_le))]
     fn length(&self) -> usize
         ensures value { result ≡ length (row_line self.now.inputs self.now.row.now) }
@@ -27,7 +28,7 @@ impl Line<'_> {
         decimal_length(self.row.serial as u64) + 2 + self.inputs as usize
     }
 
-    // Writes the letters from a place on.
+    // Writes the letters from a place on. The text is lent, so the line is written in pieces, and no Display writes it.
     #[tactic(auto, using(crate::proofs::Lines::letters_more))]
     fn put_letters(&self, text: &mut [u8], at: usize)
         requires { at + self.now.inputs < length text.old }
@@ -69,7 +70,7 @@ fn lines_length(rows: &[Row], inputs: u8) -> usize
         .sum()
 }
 
-// Writes the lines of the rows in place from the start.
+// Writes the lines of the rows in place from the start, each at the place where the one before it ends in the lent text.
 fn put_lines(rows: &[Row], inputs: u8, text: &mut [u8])
     requires { length (lines inputs rows.now) ≤ length text.old }
     ensures { text.new ≡ placed text.old 0 (lines inputs rows.now) }

@@ -3,8 +3,9 @@ ghost use Rattle.std.specs.Prelude.{◌≡◌, vec_len};
 
 use std::alloc::{AllocError, Global};
 
-// It is claimed at the making, for as many duties as a goal can have, so that no call is ever refused for want of it: `marks`
-// and `left` say something of each duty, and `counts` says how many rows in place cover it.
+// Three lists and no list of three, since a goal marks a lent list, and each is worked on apart. All is claimed at the making,
+// for as many duties as a goal can have, so that no call is ever refused for want of it: `marks` and `left` say something of
+// each duty, and `counts` says how many rows in place cover it.
 #[derive(Drop)]
 pub(crate) struct Memory {
     pub(crate) marks: Vec<bool>,

@@ -12,7 +12,8 @@ use crate::row::Row;
 use crate::sheet::Sheet;
 use goals::goal::Goal;
 
-// One more for each duty that is marked.
+// One more for each duty that is marked. Its twin takes one off: a closure for that would bring a longer clause than the loop
+// is. Both read the marks by index, since a proof knows nothing of what a zip wrote.
 fn add_marks(counts: &mut [u16], marks: &[bool])
     requires even { length counts.old ≡ length marks.now }
     requires small { (d : ℕ) → d < length counts.old → slice_index counts.old d < 256 }
