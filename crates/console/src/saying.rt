@@ -13,6 +13,7 @@ pub fn say_refused(rt: &HostRuntime, unread: Unread) -> io::Result<()> {
     let mut text = [0u8; REFUSED_LINE];
     match unread.write_line(&mut text) {
         Ok(length) => rt.stdout().write_all(&text[0..length]),
+        // This cannot be: the text is as long as the longest line.
         Err(_) => Ok(()),
     }
 }
@@ -25,6 +26,7 @@ pub fn say_listing<G: Goal>(rt: &HostRuntime, sheet: &Sheet<G>) -> io::Result<()
     let mut listing = vec![in rt.alloc(); 0u8; LISTING]?;
     match sheet.list(listing.as_mut_slice()) {
         Ok(length) => rt.stdout().write_all(&listing[0..length]),
+        // This cannot be: the text is as long as the longest listing.
         Err(_) => Ok(()),
     }
 }

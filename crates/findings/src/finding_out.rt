@@ -37,10 +37,11 @@ pub fn find_all<D: Device>(heap: Global, device: &D) -> Result<Vec<Finding>, All
 {
     let mut list = [0u16; 256];
     let mut found = Vec::new(heap);
+    // There are never more machines than 256, so the labels are never refused.
     let Ok(()) = labels(device, &mut list) else {
         return Ok(found);
     };
-    // By number, since each machine is asked for by its number; its label stands at that place.
+    // By number: the list is longer than there are machines, and a part of it, numbered and cast, would be no plainer.
     for machine in 0..device.machines() {
         found.push(finding(device, machine, list[machine as usize]))?;
     }

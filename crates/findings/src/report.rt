@@ -14,10 +14,7 @@ fn letters(heap: Global, inputs: u8, shown: Option<Mask>) -> Result<String, Allo
     requires { IsShown inputs shown }
     ensures { IfOk result (λ text. string_bytes text ≡ shown_as inputs shown) }
 {
-    let Some(number) = shown else {
-        return String::from_str(heap, "-");
-    };
-    match Cube::vector(inputs, number) {
+    match shown.and_then(|number| Cube::vector(inputs, number)) {
         Some(cube) => cube.letters(heap, inputs),
         None => String::from_str(heap, "-"),
     }

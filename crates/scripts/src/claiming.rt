@@ -16,6 +16,7 @@ pub fn numbers_of(heap: Global, words: &[&[u8]]) -> Result<Vec<u32>, LineRefusal
         return Ok(numbers);
     };
     for word in duties {
+        // By itself, so that this refusal is not in one line with that of `push`.
         let Some(number) = number_of(word) else {
             return Err(LineRefusal::NotUnderstood);
         };

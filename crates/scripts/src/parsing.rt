@@ -77,6 +77,7 @@ pub fn read_script(heap: Global, text: &[u8]) -> Result<Script, Unreadable>
     let mut script = Script::new(heap);
     for (i, line) in lines.iter().enumerate() {
         let words = words_of(heap, without_return(line))?;
+        // No `map_err`: of the two refusals one alone names the line.
         match script.add_line(heap, &words) {
             Ok(()) => {}
             Err(LineRefusal::NotUnderstood) => {

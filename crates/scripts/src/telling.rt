@@ -1,4 +1,5 @@
-// The lines that say what was answered. They are functions and no Display, since other crates have the types.
+// The lines that say what was answered. They are functions and no Display, since other crates have the types but one, and
+// that one is told like the others.
 ghost use Rattle.std.specs.Prelude.{◌≡◌, IfOk, string_bytes};
 ghost use Rattle.scripts.specs.Telling.{duty_left_bare, refused_text, answer_line, claim_line, excuse_line, unread_line};
 
@@ -51,7 +52,8 @@ pub fn excuse_line(heap: Global, answer: Result<(), NotExcused>) -> Result<Strin
     }
 }
 
-// The line of a claim: its length, or `refused`, the number and the places.
+// The line of a claim: its length, or `refused`, the number and the places. Each line stands here whole, as in the definition:
+// with the number put in, the proof that the texts are the same did not close.
 pub fn claim_line(heap: Global, verdict: Result<u16, ClaimRefusal>) -> Result<String, AllocError>
     ensures { IfOk result (λ text. string_bytes text ≡ claim_line verdict) }
 {

@@ -42,10 +42,7 @@ pub fn lines_of(heap: Global, text: &[u8]) -> Result<Vec<&[u8]>, AllocError>
 pub fn word_at<'a>(words: &[&'a [u8]], place: usize) -> &'a [u8]
     ensures { result.now ≡ slice_index_or (texts words.now) place [] }
 {
-    match words.get(place) {
-        Some(word) => word,
-        None => &[],
-    }
+    words.get(place).copied().unwrap_or(&[])
 }
 
 // The word is this one.

@@ -38,10 +38,12 @@ fn work_for<G: Goal + Drop>(rt: &HostRuntime, goal: G, script: &Script) -> anyho
         let answer = goal.excuse(*duty);
         rt.println(excuse_line(heap, answer)?)?;
     }
-    let finished = match &script.claimed {
-        Some(duties) => run(heap, goal, script.calls.as_slice(), duties.as_slice())?,
-        None => run(heap, goal, script.calls.as_slice(), &[])?,
+    // No claim is like a claim of nothing, but no line says what became of it.
+    let claimed = match &script.claimed {
+        Some(duties) => duties.as_slice(),
+        None => &[],
     };
+    let finished = run(heap, goal, script.calls.as_slice(), claimed)?;
     for answer in &finished.answers {
         rt.println(answer_line(heap, *answer)?)?;
     }
