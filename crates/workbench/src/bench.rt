@@ -12,8 +12,14 @@ use scripts::script::Script;
 use scripts::telling::{answer_line, claim_line, excuse_line};
 use std::rc::Rc;
 
-// Works for the goal of this kind over the board; where there are two goals, they share it.
-pub fn work(rt: &HostRuntime, board: Board, kind: Kind, script: &Script) -> anyhow::Result<()> {
+// Works for the goal of this kind over the board; where there are two goals, they share it. No contract can say what is printed:
+// each line is made by a call that has one.
+pub(crate) fn work(
+    rt: &HostRuntime,
+    board: Board,
+    kind: Kind,
+    script: &Script,
+) -> anyhow::Result<()> {
     let heap = rt.alloc();
     match kind {
         Kind::Detect => work_for(rt, Detection::new(board), script),
