@@ -152,7 +152,7 @@ record_bytes bs r b i =
     (λ (l : 16 ≤ i). let n = length-take 16 (drop (16 * r) bs) in let e = get_or_past (record_at bs r) i 0 (omega arith) in omega arith)
     (cases_lt i 16)
 
-record_length : (bs : List ℕ) (r : ℕ) → 16 * suc r ≤ length bs → length (record_at bs r) ≡ 16
+pub record_length : (bs : List ℕ) (r : ℕ) → 16 * suc r ≤ length bs → length (record_at bs r) ≡ 16
 record_length bs r h = let e = length-take 16 (drop (16 * r) bs) in let f = length-drop (16 * r) bs in omega arith
 
 -- good records make up a well-formed card, and are its file
@@ -173,6 +173,10 @@ counts_item (Some FaultRecord) c r = ap (λ n. seen c.inputs (length c.gates) (l
 
 pub counts_more : (c : Card) (r : List ℕ) → counts (with_record c r) ≡ counted (counts c) (get_or r 0 0)
 counts_more c r = counts_item (class (get_or r 0 0)) c r
+
+-- the part of the bytes from place 16 r to 16 r + 16 is record r
+pub part_is : (bs : List ℕ) (r : ℕ) → take (16 * r + 16 - 16 * r) (drop (16 * r) bs) ≡ record_at bs r
+part_is bs r = let e : 16 * r + 16 - 16 * r ≡ 16 = omega arith in rw e
 
 -- the records that the bytes are cut into
 cut_at : (n : ℕ) (bs : List ℕ) (r : ℕ) (d : List ℕ) → r < n → get_or (first_chunks 16 n bs) r d ≡ record_at bs r

@@ -1,6 +1,7 @@
 -- what stands on the outputs
 pub mod Masks
 -- records and files
+pub mod Fields
 pub mod Packing
 pub mod Passing
 pub mod Grown

@@ -36,9 +36,9 @@ same_one Zero = refl
 same_one One = refl
 same_one Unknown = refl
 
-module _ (c : Card) (vs : List Value) (os : List ℕ) (is : os ≡ c.outputs) (m o n : ℕ) (b : Bool) (h : o < 32) (f : n ≡ from_bool b) where
-  pub zeros_more : m ≡ mask_of (λ i. is_zero (output c vs i)) o → b ≡ sameb the_type (read vs (get_or os o 0)) Zero → bit_or m (n * 2 ^ o % 2 ^ 32) ≡ mask_of (λ i. is_zero (output c vs i)) (o + 1)
-  zeros_more e g = mask_more (λ i. is_zero (output c vs i)) m o n b h e f (g ∙ same_zero (read vs (get_or os o 0)) ∙ ap (λ xs. is_zero (read vs (get_or xs o 0))) is)
+module _ (c : Card) (vs : List Value) (m o n line : ℕ) (b : Bool) (h : o < 32) (f : n ≡ from_bool b) where
+  pub zeros_more : m ≡ mask_of (λ i. is_zero (output c vs i)) o → b ≡ sameb the_type (read vs line) Zero → line ≡ get_or c.outputs o 0 → bit_or m (n * 2 ^ o % 2 ^ 32) ≡ mask_of (λ i. is_zero (output c vs i)) (o + 1)
+  zeros_more e g is = mask_more (λ i. is_zero (output c vs i)) m o n b h e f (g ∙ same_zero (read vs line) ∙ ap (λ l. is_zero (read vs l)) is)
 
-  pub ones_more : m ≡ mask_of (λ i. is_one (output c vs i)) o → b ≡ sameb the_type (read vs (get_or os o 0)) One → bit_or m (n * 2 ^ o % 2 ^ 32) ≡ mask_of (λ i. is_one (output c vs i)) (o + 1)
-  ones_more e g = mask_more (λ i. is_one (output c vs i)) m o n b h e f (g ∙ same_one (read vs (get_or os o 0)) ∙ ap (λ xs. is_one (read vs (get_or xs o 0))) is)
+  pub ones_more : m ≡ mask_of (λ i. is_one (output c vs i)) o → b ≡ sameb the_type (read vs line) One → line ≡ get_or c.outputs o 0 → bit_or m (n * 2 ^ o % 2 ^ 32) ≡ mask_of (λ i. is_one (output c vs i)) (o + 1)
+  ones_more e g is = mask_more (λ i. is_one (output c vs i)) m o n b h e f (g ∙ same_one (read vs line) ∙ ap (λ l. is_one (read vs l)) is)

@@ -1,6 +1,8 @@
--- The pins of a gate: how many it has, and what AND, OR and XOR make of them when they take them in one by one.
-use Rattle.std.specs.Prelude.{◌≡◌, ℕ, ◌<◌, ◌≤◌, Bool, true, false, cond, not, ◌&&◌, ◌||◌, List, [], ◌∷◌, map, length, ◌==◌, nat_le, slice_index, refl}
+-- The pins of a gate: how many it has, what AND, OR and XOR make of them when they take them in one by one, and of one pin
+-- more.
+use Rattle.std.specs.Prelude.{◌≡◌, ℕ, ◌+◌, ◌<◌, ◌≤◌, Bool, true, false, cond, not, ◌&&◌, ◌||◌, List, [], ◌∷◌, ◌++◌, map, length, take, ◌==◌, nat_le, slice_index, refl}
 use Rattle.std.proofs.Common.{sym, ap, ◌∙◌, arith}
+use Rattle.std.proofs.lemmas.List.{map_more}
 use Rattle.std.specs.List.{fold}
 use Rattle.std.proofs.Math.Bool.{not-not}
 use Rattle.std.proofs.lemmas.Bool.{eqb-true, leb-true, and_parts, false≢true}
@@ -74,3 +76,63 @@ parity_fold vs = parity_from false false vs
 pub only_first : (vs : List Value) (ps : List ℕ) → length ps ≡ 1 → read vs (slice_index ps 0) ≡ only (map (read vs) ps)
 only_first vs [] h = absurd (omega arith)
 only_first vs (p ∷ ps) h = refl
+
+-- and what one pin more does
+any_push : (p : Value → Bool) (vs : List Value) (v : Value) → any p (vs ++ (v ∷ [])) ≡ (any p vs || p v)
+any_push p [] v = elim (p v) as (λ b. (b || false) ≡ (false || b)) [ true ↦ refl | false ↦ refl ]
+any_push p (x ∷ vs) v = elim (p x) as (λ b. (b || any p (vs ++ (v ∷ []))) ≡ ((b || any p vs) || p v)) [ true ↦ refl | false ↦ any_push p vs v ]
+
+odd_push : (vs : List Value) (v : Value) → odd_ones (vs ++ (v ∷ [])) ≡ cond (is_one v) (not (odd_ones vs)) (odd_ones vs)
+odd_push [] v = refl
+odd_push (Zero ∷ vs) v = odd_push vs v
+odd_push (Unknown ∷ vs) v = odd_push vs v
+odd_push (One ∷ vs) v = ap not (odd_push vs v) ∙ elim (is_one v) as (λ b. not (cond b (not (odd_ones vs)) (odd_ones vs)) ≡ cond b (not (not (odd_ones vs))) (not (odd_ones vs))) [ true ↦ refl | false ↦ refl ]
+
+conj_at : (z u : Bool) (v : Value) → cond (z || is_zero v) Zero (cond (u || is_unknown v) Unknown One) ≡ and2 (cond z Zero (cond u Unknown One)) v
+conj_at true u v = refl
+conj_at false true Zero = refl
+conj_at false true One = refl
+conj_at false true Unknown = refl
+conj_at false false Zero = refl
+conj_at false false One = refl
+conj_at false false Unknown = refl
+
+pub conj_push : (vs : List Value) (v : Value) → conj (vs ++ (v ∷ [])) ≡ and2 (conj vs) v
+conj_push vs v = rw (any_push is_zero vs v, any_push is_unknown vs v) (conj_at (any is_zero vs) (any is_unknown vs) v)
+
+disj_at : (o u : Bool) (v : Value) → cond (o || is_one v) One (cond (u || is_unknown v) Unknown Zero) ≡ or2 (cond o One (cond u Unknown Zero)) v
+disj_at true u v = refl
+disj_at false true Zero = refl
+disj_at false true One = refl
+disj_at false true Unknown = refl
+disj_at false false Zero = refl
+disj_at false false One = refl
+disj_at false false Unknown = refl
+
+pub disj_push : (vs : List Value) (v : Value) → disj (vs ++ (v ∷ [])) ≡ or2 (disj vs) v
+disj_push vs v = rw (any_push is_one vs v, any_push is_unknown vs v) (disj_at (any is_one vs) (any is_unknown vs) v)
+
+parity_at : (u o : Bool) (v : Value) → cond (u || is_unknown v) Unknown (cond (cond (is_one v) (not o) o) One Zero) ≡ xor2 (cond u Unknown (cond o One Zero)) v
+parity_at true o v = refl
+parity_at false true Zero = refl
+parity_at false true One = refl
+parity_at false true Unknown = refl
+parity_at false false Zero = refl
+parity_at false false One = refl
+parity_at false false Unknown = refl
+
+pub parity_push : (vs : List Value) (v : Value) → parity (vs ++ (v ∷ [])) ≡ xor2 (parity vs) v
+parity_push vs v = rw (any_push is_unknown vs v, odd_push vs v) (parity_at (any is_unknown vs) (odd_ones vs) v)
+
+-- a loop over the pins that takes in the value of each
+pub fold_more : (F : List Value → Value) (step : Value → Value → Value) → ((vs : List Value) (v : Value) → F (vs ++ (v ∷ [])) ≡ step (F vs) v) →
+    (vs : List Value) (ps : List ℕ) (i : ℕ) (acc : Value) → i < length ps → acc ≡ F (map (read vs) (take i ps)) → step acc (read vs (slice_index ps i)) ≡ F (map (read vs) (take (i + 1) ps))
+fold_more F step push vs ps i acc h e = rw e (sym (ap F (map_more (read vs) ps i 0 h) ∙ push (map (read vs) (take i ps)) (read vs (slice_index ps i))))
+
+-- of one pin an AND makes its value
+pub conj_only : (vs : List Value) → length vs ≡ 1 → conj vs ≡ only vs
+conj_only [] h = absurd (omega arith)
+conj_only (Zero ∷ []) h = refl
+conj_only (One ∷ []) h = refl
+conj_only (Unknown ∷ []) h = refl
+conj_only (v ∷ (w ∷ vs)) h = absurd (omega arith)

@@ -124,7 +124,7 @@ pub(crate) fn made_of(stored: &StoredGate, values: &[Value; 512]) -> Value
     ensures { result ≡ gate (gate_of stored.now).kind (map (read values.now) (gate_of stored.now).pins) }
 {
     let pins = Pins {
-        lines: stored.pins.as_slice(),
+        lines: &stored.lines[..stored.count as usize],
         values,
     };
     pins.made(stored.kind)

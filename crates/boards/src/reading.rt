@@ -11,7 +11,6 @@ use crate::gate::StoredGate;
 use crate::parted::Record;
 use crate::parts::{Class, Fault, Kind, Seen};
 use crate::refusal::Unread;
-use arrayvec::ArrayVec;
 
 // Looks through a whole file for the first bad record.
 fn check_all(bytes: &[u8]) -> Result<(), Unread>
@@ -56,9 +55,11 @@ impl Board {
         requires earlier { all_below (lines (card_of self.old)) (take count pins) ≡ true }
         ensures { card_of self.new ≡ with_gate (card_of self.old) kind (take count pins) }
     {
-        let mut pins = ArrayVec::from(pins);
-        pins.truncate(count as usize);
-        self.gates.push_reserved(StoredGate { kind, pins });
+        self.gates.push_reserved(StoredGate {
+            kind,
+            count,
+            lines: pins,
+        });
     }
 
     fn add_output(&mut self, line: u16)

@@ -19,8 +19,8 @@ wired_more : (gs gs' : List StoredGate) (g : StoredGate) → gs' ≡ gs ++ (g �
 wired_more gs gs' g e = ap wired e ∙ map_push gate_of gs g
 
 -- the wired gates after the push of a gate with these pins
-after : (gs gs' : List StoredGate) (g : StoredGate) (k : Kind) (ps : List ℕ) → gs' ≡ gs ++ (g ∷ []) → g.kind ≡ k → g.pins.items ≡ ps → wired gs' ≡ wired gs ++ (gate_with k ps ∷ [])
-after gs gs' g k ps e p q = wired_more gs gs' g e ∙ ap (λ j. wired gs ++ (gate_with j g.pins.items ∷ [])) p ∙ ap (λ xs. wired gs ++ (gate_with k xs ∷ [])) q
+after : (gs gs' : List StoredGate) (g : StoredGate) (k : Kind) (ps : List ℕ) → gs' ≡ gs ++ (g ∷ []) → g.kind ≡ k → take g.count g.lines ≡ ps → wired gs' ≡ wired gs ++ (gate_with k ps ∷ [])
+after gs gs' g k ps e p q = wired_more gs gs' g e ∙ ap (λ j. wired gs ++ (gate_with j (take g.count g.lines) ∷ [])) p ∙ ap (λ xs. wired gs ++ (gate_with k xs ∷ [])) q
 
 pub invariant_of-self : goal.invariant_of-self
 invariant_of-self c =
@@ -28,7 +28,7 @@ invariant_of-self c =
     let ws = c.args.pins in
     let gs' = vec_items c.push_reserved.new.self in
     let e : wired gs' ≡ wired (vec_items b.gates) ++ (gate_with c.args.kind (take c.args.count ws) ∷ []) =
-    after (vec_items b.gates) gs' _ c.args.kind (take c.args.count ws) c.push_reserved.ensures.items refl (c.truncate.ensures.items ∙ ap (take c.args.count) c.from-pins.ensures.0) in
+    after (vec_items b.gates) gs' _ c.args.kind (take c.args.count ws) c.push_reserved.ensures.items refl refl in
     let few = few_pins c.args.kind c.args.count c.requires.fits in
     let six : length ws ≡ 6 = omega arith in
     let n : length (take c.args.count ws) ≡ c.args.count = let t = length-take c.args.count ws in omega (arith, few.1) in
