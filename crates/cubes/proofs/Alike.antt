@@ -2,7 +2,7 @@
 use Rattle.std.proofs.Common.{◌≡◌, ℕ, ◌-◌, ◌%◌, ◌^◌, ◌<◌, Bool, true, false, cond, eqb, Some, None, Option, sym, refl, ap, ◌∙◌, subst, ⊎_elim, mod-eq_of_lt, arith}
 use native.Mathlib.Nat.{ℕ_set}
 use lib.Bits.{bit_and, bit_or}
-use Rattle.std.proofs.lemmas.Bool.{cases_Bool, or_parts, eqb-true, eqb-false, not-true}
+use Rattle.std.proofs.lemmas.Bool.{cases_Bool, or_parts, eq-eqb, ne_eqb, eqb-true, eqb-false, not-true}
 use Rattle.cubes.specs.Masks.{bit, share}
 use Rattle.cubes.specs.Cubes.{HasMasks, of_masks_by, of_masks, vector, opposed, letter}
 use Rattle.cubes.specs.declared.cube.Cube.{Cube}
@@ -54,6 +54,16 @@ united_apart a b h =
         let r0 = r.1 in
         let r1 = r.2 in
         omega arith
+
+-- the letter of an input by the bits of the masks
+pub letter_zero : (c : Cube) (i : ℕ) → bit c.zeros i ≡ 1 → 48 ≡ letter c i
+letter_zero c i h = rw (eq-eqb (bit c.zeros i) 1 h)
+
+pub letter_one : (c : Cube) (i : ℕ) → (bit c.zeros i ≡ 1 → ⊥) → bit c.ones i ≡ 1 → 49 ≡ letter c i
+letter_one c i n h = rw (ne_eqb (bit c.zeros i) 1 n, eq-eqb (bit c.ones i) 1 h)
+
+pub letter_unknown : (c : Cube) (i : ℕ) → (bit c.zeros i ≡ 1 → ⊥) → (bit c.ones i ≡ 1 → ⊥) → 88 ≡ letter c i
+letter_unknown c i n m = rw (ne_eqb (bit c.zeros i) 1 n, ne_eqb (bit c.ones i) 1 m)
 
 -- it is one of three bytes, all below 128
 pub letter_ascii : (c : Cube) (i : ℕ) → letter c i < 128

@@ -11,8 +11,21 @@ use crate::cube::Cube;
 use crate::mask::{InputWords, MOST_INPUTS, Mask};
 use crate::wide::{vector_at, with_bit};
 
-// What a search asks of vectors: whether one passes, or which of 64 of them do.
+// What a search asks of vectors: which of 64 of them pass.
 pub trait Question {
+    // How many inputs the vectors have, and which pass; both questions are answered from this alone.
+    ghost asks: { Self → Sought };
+
+    fn inputs(&self) -> u8
+        ensures value { result ≡ (asks self.now).inputs }
+        ensures few { result ≤ most_inputs };
+
+    fn passing(&self, words: &InputWords) -> u64
+        ensures { Marks (λ k. (asks self.now).passes (number_at (asks self.now).inputs words.now k)) result };
+}
+
+// A question that is asked of one vector too. Each is a Question, and may be asked 64 at a time.
+pub trait OneByOne {
     // How many inputs the vectors have, and which pass; each question is answered from this alone.
     ghost asks: { Self → Sought };
 
@@ -36,6 +49,18 @@ pub trait Question {
             }
         }
         word
+    }
+}
+
+impl<Q: OneByOne> Question for Q {
+    ghost asks = { λ q. Q.OneByOne.asks q };
+
+    fn inputs(&self) -> u8 {
+        OneByOne::inputs(self)
+    }
+
+    fn passing(&self, words: &InputWords) -> u64 {
+        OneByOne::passing(self, words)
     }
 }
 
@@ -110,7 +135,7 @@ pub fn block(inputs: u8, number: u32) -> Block
 }
 
 // Whether the vector with this number passes.
-fn passes_at<Q: Question>(question: &Q, number: Mask) -> bool
+fn passes_at<Q: OneByOne>(question: &Q, number: Mask) -> bool
     requires { number < 2 ^ (Q.asks question.now).inputs }
     ensures { result ≡ (Q.asks question.now).passes number }
 {
@@ -118,7 +143,7 @@ fn passes_at<Q: Question>(question: &Q, number: Mask) -> bool
 }
 
 // The smallest vector that passes, asked one by one. It stops at the first one.
-pub fn first<Q: Question>(question: &Q) -> Option<Mask>
+pub fn first<Q: OneByOne>(question: &Q) -> Option<Mask>
     ensures { First (2 ^ (Q.asks question.now).inputs) (Q.asks question.now).passes result }
 {
     for number in 0..1u32 << question.inputs() {

@@ -10,7 +10,7 @@ use crate::device::Device;
 use crate::widely::crossing;
 use cubes::cube::Cube;
 use cubes::mask::{InputWords, Mask};
-use cubes::walk::{Question, first, smallest};
+use cubes::walk::{OneByOne, first, smallest};
 
 // Whether some output is 0 in one answer and 1 in the other.
 pub fn told_apart(a: Answer, b: Answer) -> bool
@@ -34,7 +34,7 @@ struct Pair<'a, D> {
     j: u16,
 }
 
-impl<'a, D: Device> Question for Pair<'a, D> {
+impl<'a, D: Device> OneByOne for Pair<'a, D> {
     ghost asks = { λ q. record { inputs = (D.Device.means q.device.now).inputs; passes = tells (D.Device.means q.device.now) q.i q.j } };
 
     fn inputs(&self) -> u8 {

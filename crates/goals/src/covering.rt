@@ -6,7 +6,7 @@ ghost use Rattle.goals.specs.Goals.{vectors, covered_at};
 use crate::goal::Goal;
 use cubes::cube::Cube;
 use cubes::mask::Mask;
-use cubes::walk::{Question, first};
+use cubes::walk::{OneByOne, first};
 
 // The question which vectors cover a duty.
 #[derive(Clone, Copy)]
@@ -15,7 +15,7 @@ struct Duty<'a, G> {
     duty: u32,
 }
 
-impl<'a, G: Goal> Question for Duty<'a, G> {
+impl<'a, G: Goal> OneByOne for Duty<'a, G> {
     ghost asks = { λ q. record { inputs = (G.Goal.means q.goal.now).inputs; passes = covered_at (G.Goal.means q.goal.now) q.duty } };
 
     fn inputs(&self) -> u8 {

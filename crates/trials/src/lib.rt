@@ -5,6 +5,8 @@
 #[cfg(test)]
 mod and_gate;
 #[cfg(test)]
+mod asked;
+#[cfg(test)]
 mod c17;
 #[cfg(test)]
 mod encoding;

@@ -3,4 +3,4 @@ use Rattle.cubes.specs.Searching.{NoneBelow}
 use Rattle.cubes.proofs.walk.first.Given as goal
 
 abbrev pub invariant-loop-number : goal.invariant-loop-number
-invariant-loop-number g l = NoneBelow l.number (g.Q.Question.asks l.question).passes
+invariant-loop-number g l = NoneBelow l.number (g.Q.OneByOne.asks l.question).passes

@@ -2,9 +2,9 @@
 use Rattle.std.proofs.Common.{◌≡◌}
 use Rattle.cubes.specs.Masks.{mask_of}
 use Rattle.cubes.specs.Blocks.{number_at}
-use Rattle.cubes.proofs.walk.Question.passing.Given as goal
+use Rattle.cubes.proofs.walk.OneByOne.passing.Given as goal
 
 abbrev pub invariant-loop-k : goal.invariant-loop-k
 invariant-loop-k g l =
-    let asks = g.Self.Question.asks l.self in
+    let asks = g.Self.OneByOne.asks l.self in
     l.word ≡ mask_of (λ k. asks.passes (number_at asks.inputs l.words k)) l.k

@@ -6,12 +6,12 @@ use Rattle.cubes.specs.Blocks.{number_at}
 use Rattle.cubes.specs.declared.cube.Cube.{Cube}
 use Rattle.cubes.proofs.Bits.{mask_of_lt}
 use Rattle.cubes.proofs.Words.{has_mask_of}
-use Rattle.cubes.proofs.walk.Question.passing.Goals as goal
-use Rattle.cubes.proofs.walk.Question.passing.Goals.{in-Some, in_default}
+use Rattle.cubes.proofs.walk.OneByOne.passing.Goals as goal
+use Rattle.cubes.proofs.walk.OneByOne.passing.Goals.{in-Some, in_default}
 
 pub with_bit-word-requires : goal.with_bit-word-requires
 with_bit-word-requires g c =
-    let asks = g.Self.Question.asks c.args.self.now in
+    let asks = g.Self.OneByOne.asks c.args.self.now in
     let low = mask_of_lt (λ k. asks.passes (number_at asks.inputs c.args.words.now k)) c.loop-k.k in
     (c.loop-k-test.true, omega (arith, c.loop-k.invariant))
 
@@ -25,7 +25,7 @@ marked s words n k word cube b same is answers e =
 
 pub loop-k-preserved : goal.loop-k-preserved
 loop-k-preserved g c =
-    let s = g.Self.Question.asks c.args.self.now in
+    let s = g.Self.OneByOne.asks c.args.self.now in
     elim c.match-vector_at.branch [
       | in-Some w ↦ w.word-is ∙ w.with_bit-word.ensures ∙ marked s c.args.words.now c.inputs-inputs.result c.loop-k.k c.loop-k.word w.in-Some.cube w.passes.result c.inputs-inputs.ensures.value w.in-Some.ensures.2 w.passes.ensures c.loop-k.invariant
       | in_default w ↦ absurd (w.in_default.ensures (c.inputs-inputs.ensures.few, c.loop-k-test.true))
@@ -33,5 +33,5 @@ loop-k-preserved g c =
 
 pub returns : goal.returns
 returns g c k h =
-    let s = g.Self.Question.asks c.args.self.now in
+    let s = g.Self.OneByOne.asks c.args.self.now in
     ap (λ w. has w k) c.loop-k.invariant ∙ has_mask_of (λ j. s.passes (number_at s.inputs c.args.words.now j)) c.loop-k.k k (omega arith)
