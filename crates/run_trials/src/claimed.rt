@@ -1,6 +1,7 @@
 // Claims over detection on the AND gate.
 use crate::boards_read::detection;
 use claims::claiming::claim;
+use claims::pair::Pair;
 use claims::refusal::ClaimRefusal;
 use goals::excused::Excused;
 use std::test::Fail;
@@ -88,5 +89,17 @@ fn name_an_excused_duty(rt: HostRuntime) -> Result<(), Fail> {
     assert_eq!(rt; claim(&goal, &[0]), Err(found));
     assert_eq!(rt; found.number(), 31);
     assert_eq!(rt; claim(&goal, &[1, 4, 5]), Ok(3));
+    Ok(())
+}
+
+// A pair of places is written with the earlier one first, whatever the order of pairs.
+#[test]
+fn are_written_earlier_first(rt: HostRuntime) -> Result<(), Fail> {
+    let pair = Pair {
+        earlier: 1,
+        later: 2,
+    };
+    let text = format!(in rt.alloc(); "{pair:?}")?;
+    assert_eq!(rt; text.as_str(), "Pair { earlier: 1, later: 2 }");
     Ok(())
 }
