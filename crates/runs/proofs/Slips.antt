@@ -14,22 +14,34 @@ HasSerial n p = p.serial ≡ n
 abbrev pub HasOther : ℕ → Slip → Type 0
 HasOther n p = p.serial ≡ n → ⊥
 
+-- what stands for a slip past the end of a list
+abbrev pub no_slip : Slip
+no_slip = record { serial = 0 }
+
+-- no slip is held of a serial that none of them has, each read at its place
+pub none_held : (n : ℕ) (ps : List Slip) → ((k : ℕ) → k < length ps → (get_or ps k no_slip).serial ≡ n → ⊥) → holds ps n ≡ false
+none_held n [] h = refl
+none_held n (p ∷ ps) h = rw (ne_eqb p.serial n (h 0 (omega arith))) (none_held n ps (λ k l. h (suc k) (omega arith)))
+
 pub holds_none : (n : ℕ) (ps : List Slip) → AllWithin (HasOther n) ps 0 (length ps) → holds ps n ≡ false
-holds_none n [] h = refl
-holds_none n (p ∷ ps) h = rw (ne_eqb p.serial n (h 0 p (omega arith) (omega arith))) (holds_none n ps (λ k d l b. h (suc k) d (omega arith) (omega arith)))
+holds_none n ps h = none_held n ps (λ k l. h k no_slip (omega arith) l)
 
 -- the other serials are still held
-holds_removed : (ps : List Slip) (i n k : ℕ) → i < length ps → HoldsAt (HasSerial n) ps i → (k ≡ n → ⊥) → holds (remove ps i) k ≡ holds ps k
+pub holds_removed : (ps : List Slip) (i n k : ℕ) → i < length ps → (get_or ps i no_slip).serial ≡ n → (k ≡ n → ⊥) → holds (remove ps i) k ≡ holds ps k
 holds_removed [] i n k h e ne = absurd (omega arith)
-holds_removed (p ∷ ps) zero n k h e ne = rw (ne_eqb p.serial k (λ q. ne (sym q ∙ e p))) refl
+holds_removed (p ∷ ps) zero n k h e ne = rw (ne_eqb p.serial k (λ q. ne (sym q ∙ e))) refl
 holds_removed (p ∷ ps) (suc i) n k h e ne = ap (λ b. eqb p.serial k || b) (holds_removed ps i n k (omega arith) e ne)
+
+-- one slip more
+pub holds_push : (ps : List Slip) (p : Slip) (k : ℕ) → holds (ps ++ (p ∷ [])) k ≡ (holds ps k || eqb p.serial k)
+holds_push ps p k = let h = list_any-append (λ (q : Slip). q.serial == k) ps (p ∷ []) in grind arith
 
 -- a slip of the serial is taken
 pub taken_at : (ps qs : List Slip) (i n : ℕ) (p : Slip) → i < length ps → HoldsAt (HasSerial n) ps i → p ≡ get_or ps i p → qs ≡ remove ps i → Taken ps n qs (Some p)
 taken_at ps qs i n p h e is rest = (
   ap (λ (q : Slip). q.serial) is ∙ e p,
   (let l = ap length rest in let r = length-remove ps i h in omega arith),
-  λ k ne. ap (λ l. holds l k) rest ∙ holds_removed ps i n k h e ne,
+  λ k ne. ap (λ l. holds l k) rest ∙ holds_removed ps i n k h (e no_slip) ne,
 )
 
 -- the last slip is taken
@@ -37,7 +49,7 @@ pub taken_push : (qs : List Slip) (p : Slip) → Taken (qs ++ (p ∷ [])) p.seri
 taken_push qs p = (
   refl,
   sym (length_push qs p),
-  λ k ne. (let h = list_any-append (λ (q : Slip). q.serial == k) qs (p ∷ []) in let e : eqb p.serial k ≡ false = ne_eqb p.serial k (λ q. ne (sym q)) in grind arith),
+  λ k ne. (let h = holds_push qs p k in let e : eqb p.serial k ≡ false = ne_eqb p.serial k (λ q. ne (sym q)) in grind arith),
 )
 
 -- what the search for a slip answered: none is held, or the one found is taken

@@ -22,27 +22,50 @@ both : (xs : List ℕ) (n : ℕ) (o : Option (List ℕ)) → of_one (λ ns. xs +
 both xs n None = refl
 both xs n (Some ns) = ap Some (sym (append_assoc xs (n ∷ []) ns))
 
-module _ (ps : List (Bor (List ℕ))) (xs : List ℕ) (i : ℕ) (so_far : all_numbers (texts ps) ≡ of_one (λ ns. xs ++ ns) (all_numbers (drop i (texts ps)))) where
+-- the numbers so far, and those of the words from place i on, are the whole
+module _ (ps : List (Bor (List ℕ))) (xs : List ℕ) (i : ℕ) (whole : Option (List ℕ)) (so_far : whole ≡ of_one (λ ns. xs ++ ns) (all_numbers (drop i (texts ps)))) where
   -- the next word, as far as it is a number
-  word_next : (o : Option ℕ) (w : List ℕ) → i < length ps → w ≡ get_or (texts ps) i [] → o ≡ number_of w → all_numbers (texts ps) ≡ of_one (λ ns. xs ++ ns) (of_two (λ n ns. n ∷ ns) o (all_numbers (drop (i + 1) (texts ps))))
+  word_next : (o : Option ℕ) (w : List ℕ) → i < length ps → w ≡ get_or (texts ps) i [] → o ≡ number_of w → whole ≡ of_one (λ ns. xs ++ ns) (of_two (λ n ns. n ∷ ns) o (all_numbers (drop (i + 1) (texts ps))))
   word_next o w h e q =
       so_far
       ∙ ap (of_one (λ ns. xs ++ ns)) (at_drop_more all_numbers (texts ps) i [] (omega (arith, length-map ps now)))
       ∙ ap (λ x. of_one (λ ns. xs ++ ns) (of_two (λ n ns. n ∷ ns) (number_of x) (all_numbers (drop (i + 1) (texts ps))))) (sym e)
       ∙ ap (λ x. of_one (λ ns. xs ++ ns) (of_two (λ n ns. n ∷ ns) x (all_numbers (drop (i + 1) (texts ps))))) (sym q)
 
-  pub no_number : (w : List ℕ) → i < length ps → w ≡ get_or (texts ps) i [] → None ≡ number_of w → None ≡ all_numbers (texts ps)
-  no_number w h e q = sym (word_next None w h e q)
+  none_next : (w : List ℕ) → i < length ps → w ≡ get_or (texts ps) i [] → None ≡ number_of w → None ≡ whole
+  none_next w h e q = sym (word_next None w h e q)
 
-  pub one_number : (ys : List ℕ) (n : ℕ) (w : List ℕ) → i < length ps → w ≡ get_or (texts ps) i [] → Some n ≡ number_of w → ys ≡ xs ++ (n ∷ []) → all_numbers (texts ps) ≡ of_one (λ ns. ys ++ ns) (all_numbers (drop (i + 1) (texts ps)))
-  one_number ys n w h e q p =
+  one_next : (ys : List ℕ) (n : ℕ) (w : List ℕ) → i < length ps → w ≡ get_or (texts ps) i [] → Some n ≡ number_of w → ys ≡ xs ++ (n ∷ []) → whole ≡ of_one (λ ns. ys ++ ns) (all_numbers (drop (i + 1) (texts ps)))
+  one_next ys n w h e q p =
       word_next (Some n) w h e q
       ∙ both xs n (all_numbers (drop (i + 1) (texts ps)))
       ∙ ap (λ zs. of_one (λ ns. zs ++ ns) (all_numbers (drop (i + 1) (texts ps)))) (sym p)
 
-  pub all_words : length ps ≤ i → Some xs ≡ all_numbers (texts ps)
-  all_words h =
+  none_left : length ps ≤ i → Some xs ≡ whole
+  none_left h =
       sym (so_far ∙ ap (of_one (λ ns. xs ++ ns)) (at_drop_all all_numbers (texts ps) i (omega (arith, length-map ps now))) ∙ ap Some (append-nil xs))
+
+-- where all the words are to be numbers
+module _ (ps : List (Bor (List ℕ))) (xs : List ℕ) (i : ℕ) (so_far : all_numbers (texts ps) ≡ of_one (λ ns. xs ++ ns) (all_numbers (drop i (texts ps)))) where
+  pub no_number : (w : List ℕ) → i < length ps → w ≡ get_or (texts ps) i [] → None ≡ number_of w → None ≡ all_numbers (texts ps)
+  no_number = none_next ps xs i (all_numbers (texts ps)) so_far
+
+  pub one_number : (ys : List ℕ) (n : ℕ) (w : List ℕ) → i < length ps → w ≡ get_or (texts ps) i [] → Some n ≡ number_of w → ys ≡ xs ++ (n ∷ []) → all_numbers (texts ps) ≡ of_one (λ ns. ys ++ ns) (all_numbers (drop (i + 1) (texts ps)))
+  one_number = one_next ps xs i (all_numbers (texts ps)) so_far
+
+  pub all_words : length ps ≤ i → Some xs ≡ all_numbers (texts ps)
+  all_words = none_left ps xs i (all_numbers (texts ps)) so_far
+
+-- where the words after the first are
+module _ (ps : List (Bor (List ℕ))) (xs : List ℕ) (i : ℕ) (so_far : all_numbers (drop 1 (texts ps)) ≡ of_one (λ ns. xs ++ ns) (all_numbers (drop i (texts ps)))) where
+  pub no_later_number : (w : List ℕ) → i < length ps → w ≡ get_or (texts ps) i [] → None ≡ number_of w → None ≡ all_numbers (drop 1 (texts ps))
+  no_later_number = none_next ps xs i (all_numbers (drop 1 (texts ps))) so_far
+
+  pub one_later_number : (ys : List ℕ) (n : ℕ) (w : List ℕ) → i < length ps → w ≡ get_or (texts ps) i [] → Some n ≡ number_of w → ys ≡ xs ++ (n ∷ []) → all_numbers (drop 1 (texts ps)) ≡ of_one (λ ns. ys ++ ns) (all_numbers (drop (i + 1) (texts ps)))
+  one_later_number = one_next ps xs i (all_numbers (drop 1 (texts ps))) so_far
+
+  pub all_later_words : length ps ≤ i → Some xs ≡ all_numbers (drop 1 (texts ps))
+  all_later_words = none_left ps xs i (all_numbers (drop 1 (texts ps))) so_far
 
 -- a line that is not understood settles it
 stays : (k n : ℕ) (ls : List (List ℕ)) → reads (Err k) n ls ≡ Err k

@@ -1,3 +1,4 @@
 pub mod Reading
 pub mod Masking
+pub mod Asking
 pub mod Adding

@@ -1,6 +1,7 @@
 -- What a change of the rows does to what they cover, and to the rows of the serials.
-use Rattle.std.proofs.Common.{◌≡◌, ℕ, true, List, [], ◌∷◌, Some, refl, ap, arith}
+use Rattle.std.proofs.Common.{◌≡◌, ℕ, true, not, ◌&&◌, ◌||◌, List, [], ◌∷◌, ◌++◌, Some, refl, ap, arith}
 use Rattle.std.proofs.lemmas.Bool.Decides.{nat_tests}
+use Rattle.std.proofs.lemmas.List.Folds.{list_any-append}
 use Rattle.goals.specs.Goals.{Meaning}
 use Rattle.sheets.specs.Sheets.{row_covers, covered, in_place, row_of, replaced, without}
 use Rattle.sheets.specs.declared.row.Row.{Row}
@@ -8,6 +9,13 @@ use Rattle.sheets.specs.declared.row.Row.{Row}
 module _ (m : Meaning) (d : ℕ) where
   same_row : (x y : Row) → x ≡ y → row_covers m x d ≡ row_covers m y d
   same_row x y e = ap (λ r. row_covers m r d) e
+
+  -- what rows and further rows cover, and what those in place do
+  pub covered_append : (xs ys : List Row) → covered m (xs ++ ys) d ≡ (covered m xs d || covered m ys d)
+  covered_append xs ys = list_any-append (λ r. row_covers m r d) xs ys
+
+  pub in_place_append : (xs ys : List Row) → in_place m (xs ++ ys) d ≡ (in_place m xs d || in_place m ys d)
+  in_place_append xs ys = list_any-append (λ r. not r.out && row_covers m r d) xs ys
 
   pub covered_in_place : (xs : List Row) → in_place m xs d ≡ true → covered m xs d ≡ true
   covered_in_place [] e = e

@@ -1,6 +1,8 @@
 pub mod Standing
+pub mod Outcomes
 pub mod Handing
 pub mod Joins
+pub mod Rewriting
 pub mod Losses
 pub mod Coverage
 pub mod Stays

@@ -1,13 +1,25 @@
 -- The lines of the listing: their letters and lengths, and how a line, and the lines of all rows, are written piece by
 -- piece into lent text.
-use Rattle.std.proofs.Common.{◌≡◌, ℕ, ◌+◌, ◌<◌, true, false, List, [], ◌∷◌, ◌++◌, length, get_or, drop, set, decimal, sym, ap, ◌∙◌, add-one, arith}
+use Rattle.std.proofs.Common.{◌≡◌, ℕ, ◌+◌, ◌<◌, true, false, List, [], ◌∷◌, ◌++◌, length, get_or, drop, set, decimal, sym, ap, ◌∙◌, subst, add-one, arith}
 use Rattle.std.proofs.lemmas.List.FromFn.{length-map-range_with_len, map-range_with_len_more}
 use Rattle.std.proofs.lemmas.List.{length-append, at_drop_more}
+use Rattle.std.proofs.lemmas.Bool.{eq-eqb, ne_eqb}
 use Rattle.texts.specs.Texts.{placed}
 use Rattle.texts.proofs.Placing.{placed_append}
+use Rattle.cubes.specs.Masks.{bit}
 use Rattle.sheets.specs.Sheets.{no_row}
 use Rattle.sheets.specs.declared.row.Row.{Row}
 use Rattle.sheets.specs.Listing.{row_letter, row_letters, row_line, lines}
+
+-- the letter of an input by the bits of the masks
+pub letter_zero : (r : Row) (i : ℕ) → bit r.zeros i ≡ 1 → 48 ≡ row_letter r i
+letter_zero r i h = rw (eq-eqb (bit r.zeros i) 1 h)
+
+pub letter_one : (r : Row) (i : ℕ) → (bit r.zeros i ≡ 1 → ⊥) → bit r.ones i ≡ 1 → 49 ≡ row_letter r i
+letter_one r i n h = rw (ne_eqb (bit r.zeros i) 1 n, eq-eqb (bit r.ones i) 1 h)
+
+pub letter_unknown : (r : Row) (i : ℕ) → (bit r.zeros i ≡ 1 → ⊥) → (bit r.ones i ≡ 1 → ⊥) → 88 ≡ row_letter r i
+letter_unknown r i n m = rw (ne_eqb (bit r.zeros i) 1 n, ne_eqb (bit r.ones i) 1 m)
 
 pub length_letters : (n : ℕ) (r : Row) → length (row_letters n r) ≡ n
 length_letters n r = length-map-range_with_len (row_letter r) 0 n
@@ -43,10 +55,29 @@ line_written t at n r blank end p q =
     ∙ ap (λ k. placed (placed t at s) k (32 ∷ (ls ++ (10 ∷ [])))) p
     ∙ placed_append t at s (32 ∷ (ls ++ (10 ∷ [])))
 
+-- a row that is out has no line
+pub first_out : (n : ℕ) (r : Row) (rs : List Row) → r.out ≡ true → lines n (r ∷ rs) ≡ lines n rs
+first_out n r rs o = rw o
+
+first_in : (n : ℕ) (r : Row) (rs : List Row) → r.out ≡ false → lines n (r ∷ rs) ≡ row_line n r ++ lines n rs
+first_in n r rs o = rw o
+
+-- the line of a row in place, and then the lines of the rest
+pub lines_more : (t : List ℕ) (at n : ℕ) (r : Row) (rs : List Row) → r.out ≡ false →
+    placed t at (lines n (r ∷ rs)) ≡ placed (placed t at (row_line n r)) (at + length (row_line n r)) (lines n rs)
+lines_more t at n r rs o = ap (placed t at) (first_in n r rs o) ∙ sym (placed_append t at (row_line n r) (lines n rs))
+
+pub length_lines_in : (n : ℕ) (r : Row) (rs : List Row) → r.out ≡ false → length (lines n (r ∷ rs)) ≡ length (row_line n r) + length (lines n rs)
+length_lines_in n r rs o = ap length (first_in n r rs o) ∙ length-append (row_line n r) (lines n rs)
+
 -- the lines from row i on: the row has none where it is out, else its own comes first
 module _ (n : ℕ) (rows : List Row) (i : ℕ) (h : i < length rows) where
   pub lines_out : (get_or rows i no_row).out ≡ true → lines n (drop i rows) ≡ lines n (drop (i + 1) rows)
-  lines_out o = at_drop_more (lines n) rows i no_row h ∙ (rw o)
+  lines_out o = at_drop_more (lines n) rows i no_row h ∙ first_out n (get_or rows i no_row) (drop (i + 1) rows) o
 
   pub lines_in : (get_or rows i no_row).out ≡ false → lines n (drop i rows) ≡ row_line n (get_or rows i no_row) ++ lines n (drop (i + 1) rows)
-  lines_in o = at_drop_more (lines n) rows i no_row h ∙ (rw o)
+  lines_in o = at_drop_more (lines n) rows i no_row h ∙ first_in n (get_or rows i no_row) (drop (i + 1) rows) o
+
+-- the lines of equal rows with equally many letters
+pub listed : {a b : List Row} {n k : ℕ} (P : List ℕ → Type 0) → a ≡ b → n ≡ k → P (lines n a) → P (lines k b)
+listed {b = b} {n = n} P rows inputs h = subst (λ i. P (lines i b)) inputs (subst (λ xs. P (lines n xs)) rows h)

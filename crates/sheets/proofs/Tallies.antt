@@ -1,6 +1,6 @@
 -- How often the rows in place cover each duty, and what a true tally says of a row: whether it alone covers a wanted
 -- duty, and what the tally is without it.
-use Rattle.std.proofs.Common.{◌≡◌, ℕ, zero, suc, ◌+◌, ◌<◌, ◌≤◌, Bool, true, false, cond, not, ◌&&◌, eqb, ltb, List, [], ◌∷◌, length, get_or, is_some, None, sym, refl, ap, ◌∙◌, arith}
+use Rattle.std.proofs.Common.{◌≡◌, ℕ, zero, suc, ◌+◌, ◌<◌, ◌≤◌, Bool, true, false, cond, not, ◌&&◌, eqb, ltb, List, [], ◌∷◌, length, get_or, is_some, None, sym, refl, ap, ◌∙◌, subst, zero-add, arith}
 use Rattle.std.specs.List.{remove}
 use Rattle.std.proofs.lemmas.Bool.{and_left}
 use Rattle.std.proofs.lemmas.Bool.Decides.{nat_tests}
@@ -22,6 +22,10 @@ sole_here m counts marks d l k c w =
 pub none_sole : (m : Meaning) (counts : List ℕ) (marks : List Bool) → ((d : ℕ) → d < length counts → sole m counts marks d ≡ false) → has_sole m counts marks ≡ false
 none_sole m counts marks h = sym (ap is_some (first_least (length counts) (sole m counts marks) None h))
 
+-- a tally is true of equal rows with equal counts
+pub tallied_same : (m : Meaning) (xs ys : List Row) (a b : List ℕ) → ys ≡ xs → b ≡ a → Tallied m xs a → Tallied m ys b
+tallied_same m xs ys a b p q t = subst (λ l. Tallied m l b) (sym p) (subst (Tallied m xs) (sym q) t)
+
 -- a row is judged by a tally: it is in place at i, the tally is that of the rows, and the marks are those of the row
 pub record Judged (m : Meaning) (xs : List Row) (i : ℕ) (r : Row) (counts : List ℕ) (marks : List Bool) : Type 0 where
   pub within : i < length xs
@@ -33,6 +37,13 @@ pub record Judged (m : Meaning) (xs : List Row) (i : ℕ) (r : Row) (counts : Li
   pub marked : RowMarked m r marks
 
 module _ (m : Meaning) where
+  -- a row that is out counts for nothing, and one in place for each duty that it covers
+  pub times_out : (r : Row) (rs : List Row) (d : ℕ) → r.out ≡ true → times m (r ∷ rs) d ≡ times m rs d
+  times_out r rs d o = rw o (zero-add (times m rs d))
+
+  pub times_in : (r : Row) (rs : List Row) (d : ℕ) → r.out ≡ false → times m (r ∷ rs) d ≡ cond (row_covers m r d) 1 0 + times m rs d
+  times_in r rs d o = rw o
+
   -- a row in place covers a duty where the count is not 0
   in_place_times : (xs : List Row) (d : ℕ) → in_place m xs d ≡ ltb 0 (times m xs d)
   in_place_times [] d = refl
