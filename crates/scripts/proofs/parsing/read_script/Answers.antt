@@ -1,4 +1,4 @@
-use Rattle.std.proofs.Common.{◌≡◌, None, Ok, sym, ap, ◌∙◌}
+use Rattle.std.proofs.Common.{◌≡◌, None, Ok, Err, sym, ap, ◌∙◌, arith}
 use Rattle.scripts.specs.Words.{texts, lines_of}
 use Rattle.scripts.specs.Scripts.{plan, adds, reads}
 use Rattle.scripts.proofs.Adding.{part_at, line_added, line_refused, all_lines}
@@ -15,6 +15,7 @@ returns-in-Err-NotUnderstood c =
     let i = c.loop-i.i in
     let none : adds (plan c.loop-i.script) (texts c.deref.result.now) ≡ None = rw c.in-Err-NotUnderstood.field-0-is at c.in-Err-NotUnderstood.ensures in
     c.loop-i.invariant ∙ line_refused ps (plan c.loop-i.script) i _ _ _ c.loop-i-test.true (part_at ps i _ c.loop-i-test.true) c.without_return.ensures (ap texts c.deref.ensures.value ∙ c.in_ok-words.ensures) none
+    ∙ ap Err (omega arith)
 
 pub loop-i-preserved : goal.loop-i-preserved
 loop-i-preserved c =

@@ -1,4 +1,4 @@
-use Rattle.std.proofs.Common.{length, get_or, Some, None, sym, ◌∙◌, arith, below_more}
+use Rattle.std.proofs.Common.{◌≡◌, length, get_or, take, Some, None, sym, ◌∙◌, subst, arith, below_more}
 use Rattle.cubes.proofs.Searches.{first_least}
 use Rattle.claims.specs.Claims.{named_before}
 use Rattle.claims.proofs.Firsts.{any_before}
@@ -8,14 +8,16 @@ pub returns-then-contains : goal.returns-then-contains
 returns-then-contains g c =
     let ds = c.args.self.now.duties.now in
     let p = c.loop-place.place in
-    let here = any_before ds p (get_or ds p 0) c.contains.result (omega arith) c.contains.ensures.cases in
+    let part : _ ≡ take p ds = grind arith in
+    let here = any_before ds p (get_or ds p 0) _ c.contains.result (omega arith) part c.contains.ensures.cases in
     first_least (length ds) (named_before ds) (Some p) (c.loop-place-test.true, sym here ∙ c.if-contains.true, c.loop-place.invariant)
 
 pub loop-place-preserved : goal.loop-place-preserved
 loop-place-preserved g c =
     let ds = c.args.self.now.duties.now in
     let p = c.loop-place.place in
-    let here = any_before ds p (get_or ds p 0) c.contains.result (omega arith) c.contains.ensures.cases in
+    let part : _ ≡ take p ds = grind arith in
+    let here = any_before ds p (get_or ds p 0) _ c.contains.result (omega arith) part c.contains.ensures.cases in
     below_more _ _ c.loop-place.invariant (sym here ∙ c.if-contains.false)
 
 pub returns : goal.returns
