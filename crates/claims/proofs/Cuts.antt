@@ -9,15 +9,11 @@ use Rattle.cubes.specs.declared.cube.Cube.{Cube}
 use Rattle.cubes.proofs.Bits.{bit_above, bit_mod, bit_rest}
 use Rattle.cubes.proofs.Alike.{not_both}
 
--- the bits below n of a mask that is cut there
-pub bit_cut : (n x i : ℕ) → i < n → bit (x % 2 ^ n) i ≡ bit x i
-bit_cut n x i h = bit_mod n x i h
-
 abbrev pub cut : ℕ → Cube → Cube
 cut n c = record { zeros = c.zeros % 2 ^ n; ones = c.ones % 2 ^ n; apart = sym (and_mod c.zeros c.ones n) ∙ ap (λ k. k % 2 ^ n) c.apart ∙ zero-mod (2 ^ n) }
 
 pub cut_agrees : (n : ℕ) (c : Cube) → Agree n c (cut n c)
-cut_agrees n c i h = (sym (bit_cut n c.zeros i h), sym (bit_cut n c.ones i h))
+cut_agrees n c i h = (sym (bit_mod n c.zeros i h), sym (bit_mod n c.ones i h))
 
 -- the number of the vector that has the ones of a cube
 abbrev pub filled : ℕ → Cube → ℕ
@@ -36,8 +32,8 @@ filled_refines n c i = (zeros, λ h. ap (λ x. bit x i) same ∙ h)
     zeros h =
         rw same (⊎_elim
         (λ (l : i < n).
-        let a = bit_cut n c.zeros i l in
-        let b = bit_cut n c.ones i l in
+        let a = bit_mod n c.zeros i l in
+        let b = bit_mod n c.ones i l in
         let r = bit_rest n (filled n c) i (filled_below n c) l in
         let z : bit c.zeros i ≡ 1 = omega arith in
         let o = not_both c i z in

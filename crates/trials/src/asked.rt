@@ -1,4 +1,4 @@
-// A question that answers 64 vectors at a time, and none by itself.
+// A question that is asked of 64 vectors at a time, and cannot be asked of one.
 ghost use Rattle.std.specs.Prelude.{ℕ};
 ghost use Rattle.cubes.specs.Masks.{has};
 ghost use Rattle.cubes.specs.Searching.{Sought};

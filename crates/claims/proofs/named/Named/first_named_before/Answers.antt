@@ -1,4 +1,4 @@
-use Rattle.std.proofs.Common.{◌≡◌, length, get_or, take, Some, None, sym, ◌∙◌, subst, arith, below_more}
+use Rattle.std.proofs.Common.{◌≡◌, length, get_or, take, Some, None, sym, ◌∙◌, arith, below_more}
 use Rattle.cubes.proofs.Searches.{first_least}
 use Rattle.claims.specs.Claims.{named_before}
 use Rattle.claims.proofs.Firsts.{any_before}
